@@ -1,0 +1,29 @@
+-- What a listing of files can tell, whatever they hold. Assumes nothing.
+use mathlib.Core.Path.{_≡_}
+use mathlib.Core.List.{List}
+use mathlib.Core.Logic.{_⊎_}
+use Prim.Native.Nat.{ℕ, _≤_}
+use lib.ListN.{length}
+use Rattle.std.specs.declared.result.Result.{Result}
+use Rattle.std.specs.declared.result.Result.the-variants.{Ok, Err}
+use Rattle.refusal.specs.declared.Refusal.{Refusal}
+use Rattle.refusal.specs.declared.Refusal.the-variants.{FaceUnreadable, PhotographUnreadable, OutOfMemory}
+use Rattle.listing.specs.Answer.{line-answer}
+use Rattle.listing.specs.declared.line.Line.{Line}
+
+-- a file that could not be read, or want of memory
+abbrev pub Unread : Refusal → Refusal → Type 0
+Unread unreadable e = (e ≡ unreadable) ⊎ (e ≡ OutOfMemory)
+
+-- the answer to some bytes of a face and a photograph
+pub record Answered (r : Result Line Refusal) : Type 0 where
+  pub face : List ℕ
+  pub photo : List ℕ
+  pub few-of-face : length face ≤ 65537
+  pub few-of-photo : length photo ≤ 16385
+  pub told : r ≡ line-answer face photo
+
+-- a line is that of some bytes; a refusal is that of some bytes or of a file that could not be read
+abbrev pub Told : Result Line Refusal → Type 0
+Told (Ok line) = Answered (Ok line)
+Told (Err e) = Answered (Err e) ⊎ (Unread FaceUnreadable e ⊎ Unread PhotographUnreadable e)

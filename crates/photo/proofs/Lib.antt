@@ -1,0 +1,4 @@
+pub mod Runs
+pub mod Scans
+pub mod Exact
+pub mod Padding

@@ -1,0 +1,4 @@
+pub mod Header
+pub mod Verdict
+pub mod Pixels
+pub mod Laid

@@ -1,0 +1,5 @@
+// Tests of the readers: what each refuses and where, and what is still lawful.
+#[cfg(test)]
+mod faces;
+#[cfg(test)]
+mod photographs;
