@@ -1,21 +1,11 @@
 // Lists pairs of files that lie at the edge of what can be read, and prints what is told of each.
 use listing::list_files;
+use listing::print_answer;
 use std::error::AnyError;
 
 fn show(rt: &LibcRuntime, what: &str, face: &str, photo: &str) -> Result<(), AnyError> {
-    match list_files(rt, face, photo) {
-        Ok(line) => {
-            let width = line.width;
-            let count = line.count;
-            println!(rt, "{what}: LINE {width} {count}")?;
-        }
-        Err(refusal) => {
-            let number = refusal.number().unwrap_or(0);
-            let place = refusal.place();
-            println!(rt, "{what}: REFUSED {number} {place}")?;
-        }
-    }
-    Ok(())
+    print!(rt, "{what}: ")?;
+    print_answer(rt, list_files(rt, face, photo))
 }
 
 fn main(rt: LibcRuntime) -> Result<(), AnyError> {

@@ -144,7 +144,7 @@ fn compare(face: [u8; 36], length: usize, cases: &[Case]) -> Result<(), Fail> {
     Ok(())
 }
 
-const HEAD_AND_LEVEL: [Case; 20] = [
+const HEAD_AND_LEVEL: [Case; 29] = [
     Case(0, [2, 0], 0, 0),
     Case(0, [0, 0], 12, 0),
     Case(0, [65, 0], 12, 0),
@@ -165,9 +165,18 @@ const HEAD_AND_LEVEL: [Case; 20] = [
     Case(6, [0xE9, 0x03], 14, 4),
     Case(6, [0x18, 0xFC], 0, 0),
     Case(6, [0x17, 0xFC], 14, 4),
+    Case(0, [0xFF, 0xFF], 12, 0),
+    Case(0, [1, 0], 16, 28),
+    Case(2, [255, 1], 12, 2),
+    Case(2, [1, 255], 12, 3),
+    Case(4, [0xFF, 0x7F], 14, 4),
+    Case(4, [0, 0x80], 14, 4),
+    Case(4, [0, 0], 0, 0),
+    Case(6, [0xFF, 0x7F], 14, 4),
+    Case(6, [0, 0x80], 14, 4),
 ];
 
-const TEMPLATES: [Case; 22] = [
+const TEMPLATES: [Case; 33] = [
     Case(8, [32, 1], 15, 8),
     Case(8, [33, 1], 0, 0),
     Case(8, [126, 1], 0, 0),
@@ -190,6 +199,17 @@ const TEMPLATES: [Case; 22] = [
     Case(24, [0, 0], 0, 0),
     Case(24, [2, 0], 17, 24),
     Case(26, [0, 0x80], 17, 24),
+    Case(8, [0, 1], 15, 8),
+    Case(8, [255, 1], 15, 8),
+    Case(8, [46, 255], 15, 8),
+    Case(10, [255, 0], 15, 8),
+    Case(10, [0, 255], 15, 8),
+    Case(12, [0xFF, 0x7F], 15, 8),
+    Case(12, [0, 0x80], 15, 8),
+    Case(12, [0xFF, 0xFF], 0, 0),
+    Case(14, [255, 0], 15, 8),
+    Case(22, [0, 255], 15, 16),
+    Case(24, [0xFF, 0xFF], 17, 24),
 ];
 
 const LEVELS_APART: [Case; 6] = [

@@ -3,3 +3,5 @@
 mod faces;
 #[cfg(test)]
 mod photographs;
+#[cfg(test)]
+mod refusals;

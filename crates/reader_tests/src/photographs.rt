@@ -50,7 +50,7 @@ const BYTES: [Case; 17] = [
     Case(b"P4\n3: 5\n12345", 22, 4),
 ];
 
-const NUMBERS: [Case; 14] = [
+const NUMBERS: [Case; 17] = [
     Case(b"P4 00003 00005\n12345", 0, 0),
     Case(b"P4 000003 5\n12345", 22, 8),
     Case(b"P4 3 000005\n12345", 22, 10),
@@ -65,6 +65,9 @@ const NUMBERS: [Case; 14] = [
     Case(b"P4 3 00006\n", 23, 5),
     Case(b"P4 0 99999\n", 23, 3),
     Case(b"P4 0 5", 22, 6),
+    Case(b"P4 3 0\n", 23, 5),
+    Case(b"P4 3 99999\n", 23, 5),
+    Case(b"P4 1 5\n12345", 0, 0),
 ];
 
 fn compare(cases: &[Case]) -> Result<(), Fail> {
