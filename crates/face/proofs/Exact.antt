@@ -20,7 +20,7 @@ use Rattle.refusal.specs.First.{Exactly, ensure, first-refusal}
 use Rattle.refusal.proofs.First.{decides-each, exactly-ensure, exactly-each, exactly-none, exactly-more, exactly-given, exactly-like}
 use Rattle.refusal.specs.declared.Refusal.the-variants.{FaceSize, FaceHead, FaceTruncated, FaceLevel, FaceTemplate, FaceLength, FaceWord}
 use Rattle.face.specs.Fields.{count, levels, height, level-start, gamma, beta, template-start, name, setwidth, box-width, prior, word-start, word-at, columns-before}
-use Rattle.face.specs.Verdict.{sized, level-lawful, spare-lawful, template-lawful, words, apart, word-lawful, levels-verdict, templates-verdict, length-verdict, words-verdict, head-verdict, checks-verdict, face-verdict}
+use Rattle.face.specs.Verdict.{Headed, sized, level-lawful, spare-lawful, template-lawful, words, apart, word-lawful, levels-verdict, templates-verdict, length-verdict, words-verdict, head-verdict, checks-verdict, face-verdict}
 use Rattle.face.specs.Laid.{Level-laid, Template-laid, column-word, Word-laid, Face-laid}
 
 module _ (face : List ℕ) where
@@ -92,40 +92,34 @@ module _ (face : List ℕ) where
       (λ all j h. all (j / levels face) (j % levels face) (div-below j (levels face) (columns-before face (count face)) some (omega (arith, mul-comm (levels face) (columns-before face (count face))))) (mod-below j (levels face) some))
       (exactly-each (words face) (word-lawful face) _ (λ j. Word-laid face (j / levels face) (j % levels face)) (λ j _. decides-word-at j some))
 
-  -- what the head's checks ask
-  Head : Type 0
-  Head =
-      ((4 ≤ length face) × (length face ≤ 65536))
-      × (((1 ≤ count face) × (count face ≤ 64))
-      × (((1 ≤ levels face) × (levels face ≤ 4))
-      × (((1 ≤ height face) × (height face ≤ 32)) × ((template-start face (count face) ≤ length face) × Unit {0}))))
-
-  exactly-head : Exactly (head-verdict face) Head
-  unfolding Head
+  exactly-head : Exactly (head-verdict face) (Headed face)
   exactly-head =
-      exactly-more _ _ (exactly-ensure (sized face) FaceSize (decides-from-to 4 65536 (length face)))
+      exactly-like (head-verdict face)
+      (λ p. record { size = p .0 .1; counted = p .1 .0; levelled = p .1 .1 .0; high = p .1 .1 .1 .0; there = p .1 .1 .1 .1 .0 })
+      (λ r. ((omega (arith, r .there), r .size), (r .counted, (r .levelled, (r .high, (r .there, tt))))))
+      (exactly-more _ _ (exactly-ensure (sized face) FaceSize (decides-from-to 4 65536 (length face)))
       (exactly-more _ _ (exactly-ensure _ (FaceHead 0) (decides-from-to 1 64 (count face)))
       (exactly-more _ _ (exactly-ensure _ (FaceHead 2) (decides-from-to 1 4 (levels face)))
       (exactly-more _ _ (exactly-ensure _ (FaceHead 3) (decides-from-to 1 32 (height face)))
-      (exactly-more _ _ (exactly-ensure _ (FaceTruncated (length face)) (decides-leb (template-start face (count face)) (length face))) exactly-none))))
+      (exactly-more _ _ (exactly-ensure _ (FaceTruncated (length face)) (decides-leb (template-start face (count face)) (length face))) exactly-none)))))
 
   pub exactly-laid : Exactly (face-verdict face) (Face-laid face)
-  unfolding Head face-verdict
+  unfolding face-verdict
   exactly-laid =
       exactly-like (face-verdict face)
       (λ p. record {
-        sized = p .0 .0;
-        counted = p .0 .1 .0;
-        levelled = p .0 .1 .1 .0;
-        high = p .0 .1 .1 .1 .0;
+        sized = (omega (arith, p .0 .there), p .0 .size);
+        counted = p .0 .counted;
+        levelled = p .0 .levelled;
+        high = p .0 .high;
         levels-laid = p .1 .0;
         templates-laid = p .1 .1 .0;
         ends = p .1 .1 .1 .0;
         columns-laid = p .1 .1 .1 .1 .0;
       })
-      (λ r. ((r .sized, (r .counted, (r .levelled, (r .high, (omega (arith, r .ends), tt))))), (r .levels-laid, (r .templates-laid, (r .ends, (r .columns-laid, tt))))))
+      (λ r. (record { size = r .sized .1; counted = r .counted; levelled = r .levelled; high = r .high; there = omega (arith, r .ends) }, (r .levels-laid, (r .templates-laid, (r .ends, (r .columns-laid, tt))))))
       (exactly-given (head-verdict face) _ exactly-head (λ h.
       exactly-more (levels-verdict face) _ (exactly-each (levels face) (level-lawful face) _ _ (λ l _. decides-level l))
       (exactly-more (templates-verdict face) _ (exactly-each (count face) (template-lawful face) _ _ (λ t _. decides-template t))
       (exactly-more (length-verdict face) _ (exactly-ensure _ _ (decides-eqb (length face) (word-start face (words face))))
-      (exactly-more (words-verdict face) _ (exactly-words (h .1 .1 .0 .0)) exactly-none)))))
+      (exactly-more (words-verdict face) _ (exactly-words (h .levelled .0)) exactly-none)))))

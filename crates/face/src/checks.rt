@@ -40,13 +40,23 @@ fn check_head(bytes: &[u8]) -> Result<(), Refusal>
     )
 }
 
+// The first byte of a level.
+pub(crate) fn level_start(level: usize) -> usize
+    requires { ⌜ level < 256 ⌝ }
+    ensures value { λ r. ⌜ r ≡ level-start level ⌝ }
+    ensures bound { λ r. ⌜ r < 2 ^ 20 ⌝ }
+{
+    4 + 4 * level
+}
+
 // Whether both weights of a level are in range.
 fn level_lawful(bytes: &[u8], level: usize) -> bool
     requires { ⌜ level < 256 ⌝ }
     ensures { λ r. ⌜ r ≡ level-lawful (now (bytes .entry)) level ⌝ }
 {
-    let gamma = i16_at(bytes, 4 + 4 * level);
-    let beta = i16_at(bytes, 4 + 4 * level + 2);
+    let at = level_start(level);
+    let gamma = i16_at(bytes, at);
+    let beta = i16_at(bytes, at + 2);
     signed_from_to(-1_000, 1_000, gamma) && signed_from_to(-1_000, 1_000, beta)
 }
 
@@ -56,7 +66,9 @@ fn check_levels(bytes: &[u8]) -> Result<(), Refusal>
     let levels = usize::from(byte_at(bytes, 2));
     for l in 0..levels {
         if !level_lawful(bytes, l) {
-            return Err(Refusal::FaceLevel { byte: 4 + 4 * l });
+            return Err(Refusal::FaceLevel {
+                byte: level_start(l),
+            });
         }
     }
     Ok(())

@@ -22,6 +22,7 @@ use bytes::i16_at;
 use bytes::u16_at;
 pub use checks::check;
 use checks::columns_before;
+use checks::level_start;
 use checks::template_start;
 use checks::word_start;
 
@@ -139,7 +140,7 @@ impl<'a> Face<'a> {
         ensures bound { λ r. ⌜ found r (λ at. at < 2 ^ 20) ⌝ }
     {
         if level < self.levels() {
-            Some(4 + 4 * level)
+            Some(level_start(level))
         } else {
             None
         }

@@ -99,30 +99,6 @@ pub fn check(bytes: &[u8], rows: usize) -> Result<Header, Refusal>
     first_refusal(bytes, rows)
 }
 
-// Does nothing: its contract is the law that the header which was told is that of the photograph.
-fn header_law(bytes: &[u8], rows: usize, header: Header)
-    requires { ⌜ photo-verdict (now bytes) rows ≡ Ok header ⌝ }
-    ensures accepted { λ _. ⌜ isOk (photo-verdict (now (bytes .entry)) rows) ≡ true ⌝ }
-    ensures same { λ _. ⌜ header-of (now (bytes .entry)) rows ≡ header ⌝ }
-{}
-
-// Does nothing: its contract is the law that a photograph which is refused nothing has its layout.
-fn laid(bytes: &[u8], rows: usize)
-    requires { ⌜ isOk (photo-verdict (now bytes) rows) ≡ true ⌝ }
-    ensures { λ _. ⌜ Photograph-laid (now (bytes .entry)) rows (header-of (now (bytes .entry)) rows) ⌝ }
-{}
-
-// Does nothing: its contract is the law that padding bits do not matter.
-fn padding_law(bytes: &[u8], rows: usize, x: usize, y: usize)
-    ensures { λ _. ⌜ ((other : List ℕ) → Padded-alike rows (now (bytes .entry)) other → black-at (now (bytes .entry)) rows x y ≡ black-at other rows x y) ⌝ }
-{}
-
-// Does nothing: its contract is the law that a header is told exactly if the layout holds with it.
-fn layout_law(bytes: &[u8], rows: usize)
-    ensures named { λ _. ⌜ checks-verdict (now (bytes .entry)) rows ≡ photo-verdict (now (bytes .entry)) rows ⌝ }
-    ensures exactly { λ _. ⌜ Tells-exactly (now (bytes .entry)) rows (photo-verdict (now (bytes .entry)) rows) ⌝ }
-{}
-
 // The header, or the first refusal in the order of the checks.
 fn first_refusal(bytes: &[u8], rows: usize) -> Result<Header, Refusal>
     ensures { λ r. ⌜ r ≡ checks-verdict (now (bytes .entry)) rows ⌝ }
@@ -154,6 +130,30 @@ fn first_refusal(bytes: &[u8], rows: usize) -> Result<Header, Refusal>
     )?;
     Ok(Header { width, raster })
 }
+
+// Does nothing: its contract is the law that the header which was told is that of the photograph.
+fn header_law(bytes: &[u8], rows: usize, header: Header)
+    requires { ⌜ photo-verdict (now bytes) rows ≡ Ok header ⌝ }
+    ensures accepted { λ _. ⌜ isOk (photo-verdict (now (bytes .entry)) rows) ≡ true ⌝ }
+    ensures same { λ _. ⌜ header-of (now (bytes .entry)) rows ≡ header ⌝ }
+{}
+
+// Does nothing: its contract is the law that a photograph which is refused nothing has its layout.
+fn laid(bytes: &[u8], rows: usize)
+    requires { ⌜ isOk (photo-verdict (now bytes) rows) ≡ true ⌝ }
+    ensures { λ _. ⌜ Photograph-laid (now (bytes .entry)) rows (header-of (now (bytes .entry)) rows) ⌝ }
+{}
+
+// Does nothing: its contract is the law that padding bits do not matter.
+fn padding_law(bytes: &[u8], rows: usize, x: usize, y: usize)
+    ensures { λ _. ⌜ ((other : List ℕ) → Padded-alike rows (now (bytes .entry)) other → black-at (now (bytes .entry)) rows x y ≡ black-at other rows x y) ⌝ }
+{}
+
+// Does nothing: its contract is the law that a header is told exactly if the layout holds with it.
+fn layout_law(bytes: &[u8], rows: usize)
+    ensures named { λ _. ⌜ checks-verdict (now (bytes .entry)) rows ≡ photo-verdict (now (bytes .entry)) rows ⌝ }
+    ensures exactly { λ _. ⌜ Tells-exactly (now (bytes .entry)) rows (photo-verdict (now (bytes .entry)) rows) ⌝ }
+{}
 
 // The bytes of so many rows of so many columns.
 fn raster_size(rows: usize, width: usize) -> usize

@@ -1,5 +1,7 @@
+use mathlib.Core.Path.{ap, _∙_}
 use native.Mathlib.Omega.{arith}
 use Rattle.refusal.proofs.First.{sofar-more, sofar-stop, sofar-all, refuse-some, refuse-none}
+use Rattle.std.specs.declared.result.Result.the-variants.{Err}
 use Rattle.refusal.specs.declared.Refusal.the-variants.{FaceLevel}
 use Rattle.face.specs.Fields.{levels, level-start}
 use Rattle.face.specs.Verdict.{level-lawful}
@@ -8,7 +10,7 @@ use Rattle.face.proofs.checks.check_levels.Needs as need
 pub returns-then-not-level-lawful : need.returns-then-not-level-lawful
 returns-then-not-level-lawful c =
     let b = c .args .bytes .now in
-    refuse-some (λ i. FaceLevel (level-start i)) (c .loop-l .l)
+    ap (λ p. Err (FaceLevel p)) (c .level-start .ensures .value) ∙ refuse-some (λ i. FaceLevel (level-start i)) (c .loop-l .l)
     (sofar-stop (levels b) (level-lawful b) (c .loop-l .l) (c .loop-l .inv) (omega arith) (c .if-not-level-lawful .ensures tt))
 
 pub loop-l-again : need.loop-l-again
