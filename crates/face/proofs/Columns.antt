@@ -12,11 +12,11 @@ use Rattle.std.proofs.shelf.Tests.{cases-lt}
 use Rattle.face.specs.Fields.{count, levels, box-width, columns-before, columns-start}
 use Rattle.face.specs.Laid.{Face-laid}
 
-columns-more : (face : List ℕ) (t : ℕ) → columns-before face (t + 1) ≡ columns-before face t + box-width face t
+pub columns-more : (face : List ℕ) (t : ℕ) → columns-before face (t + 1) ≡ columns-before face t + box-width face t
 unfolding columns-before
 columns-more face t = rw add-one refl
 
-columns-mono : (face : List ℕ) (s t : ℕ) → s ≤ t → columns-before face s ≤ columns-before face t
+pub columns-mono : (face : List ℕ) (s t : ℕ) → s ≤ t → columns-before face s ≤ columns-before face t
 unfolding columns-before
 columns-mono face s zero h = let z : s ≡ 0 = omega arith in subst (λ q. columns-before face q ≤ 0) (sym z) (omega arith)
 columns-mono face s (suc t) h =
@@ -33,3 +33,7 @@ pub columns-within : (face : List ℕ) (t : ℕ) → Face-laid face → t < coun
 columns-within face t laid h =
     let mono : columns-before face (t + 1) ≤ columns-before face (count face) = columns-mono face (t + 1) (count face) (omega arith) in
     omega (arith, laid .ends, mul-le (levels face) (columns-before face (t + 1)) (levels face) (columns-before face (count face)) (omega arith) mono)
+
+-- column c of template t is one of all columns
+pub column-there : (face : List ℕ) (t c : ℕ) → t < count face → c < box-width face t → columns-before face t + c < columns-before face (count face)
+column-there face t c h k = omega (arith, columns-more face t, columns-mono face (t + 1) (count face) (omega arith))

@@ -1,0 +1,5 @@
+pub mod Sums
+pub mod Column
+pub mod Rows
+pub mod Ranges
+pub mod Lawful

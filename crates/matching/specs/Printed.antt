@@ -1,0 +1,77 @@
+-- The scores of a template printed on an image. Assumes nothing.
+use mathlib.Core.Bool.{Bool, _&&_}
+use mathlib.Core.List.{List}
+use Prim.Native.Nat.{ℕ, _+_, _-_, _/_, _%_, _^_}
+use lib.Dec.{eqb}
+use lib.IntN.{ℤ, pos, negℤ, _+ℤ_, _*ℤ_}
+use Rattle.face.specs.Fields.{count, levels, height, gamma, beta, setwidth, box-width, prior, columns-before}
+use Rattle.face.specs.Laid.{column-word}
+use Rattle.scorer.specs.Meaning.{Meaning}
+use Rattle.matching.specs.Column.{column-value}
+use Rattle.matching.specs.Counts.{sum, sum-signed, count-of, greatest, lowest}
+
+-- bit i of a word
+abbrev pub has-bit : ℕ → ℕ → Bool
+has-bit word i = eqb (word / 2 ^ i % 2) 1
+
+-- an image: whether column x of row y is black
+abbrev pub Image : Type 0
+Image = ℕ → ℕ → Bool
+
+module _ (face : List ℕ) where
+  -- the pixel of level l in row i of column c of a template's box
+  abbrev pub pixel : ℕ → ℕ → ℕ → ℕ → Bool
+  pixel t c l i = has-bit (column-word face (columns-before face t + c) l) i
+
+  -- the rows of an image: two more than the box above it, and two below
+  abbrev pub rows : ℕ
+  rows = height face + 4
+
+  -- how many pixels a level has, in one column of the box and in all
+  abbrev pub column-pixels : ℕ → ℕ → ℕ → ℕ
+  column-pixels t c l = count-of (height face) (pixel t c l)
+
+  abbrev pub pixels : ℕ → ℕ → ℕ
+  pixels t l = sum (box-width face t) (λ c. column-pixels t c l)
+
+  -- what a template earns wherever it stands
+  abbrev pub base : ℕ → ℤ
+  base t = prior face t +ℤ sum-signed (levels face) (λ l. beta face l *ℤ pos (pixels t l))
+
+  -- the rows of an image column that no pixel of a box column lies on
+  abbrev pub free-rows : ℕ → ℕ → ℕ
+  free-rows t c = rows - sum (levels face) (column-pixels t c)
+
+  module _ (image : Image) where
+    -- how many pixels of a level lie over black, where the box begins at column x and its row 0 lies on row s
+    abbrev pub column-over-black : ℕ → ℕ → ℕ → ℕ → ℕ → ℕ
+    column-over-black x t s c l = count-of (height face) (λ i. pixel t c l i && image (x + c) (i + s))
+
+    abbrev pub over-black : ℕ → ℕ → ℕ → ℕ → ℕ
+    over-black x t s l = sum (box-width face t) (λ c. column-over-black x t s c l)
+
+    -- the score there
+    unfoldable pub score-at : ℕ → ℕ → ℕ → ℤ
+    score-at x t s = base t +ℤ sum-signed (levels face) (λ l. gamma face l *ℤ pos (over-black x t s l))
+
+    -- the box may lie two rows higher or lower than the middle: its row 0 lies on row 0 to 4
+    unfoldable pub exact-score : ℕ → ℕ → ℤ
+    exact-score x t = greatest (score-at x t) 0 4
+
+    -- the shift is how far below the middle the highest such box lies that reaches the exact score
+    unfoldable pub shift-of : ℕ → ℕ → ℤ
+    shift-of x t = pos (lowest (score-at x t) 4) +ℤ negℤ (pos 2)
+
+    -- how many pixels of an image column are black
+    abbrev pub black-count : ℕ → ℕ
+    black-count x = count-of rows (image x)
+
+    -- each box column earns at most its value
+    unfoldable pub bound-score : ℕ → ℕ → ℤ
+    bound-score x t =
+        base t +ℤ sum-signed (box-width face t) (λ c. column-value (gamma face) (column-pixels t c) (free-rows t c) (levels face) (black-count (x + c)))
+
+    -- the line of that image, so many columns wide
+    abbrev pub printed-meaning : ℕ → Meaning
+    printed-meaning width =
+        record { width = width; count = count face; setwidth = setwidth face; bound = bound-score; exact = exact-score }

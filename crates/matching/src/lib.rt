@@ -1,0 +1,1 @@
+// Printed scores: how well a template of a face matches the columns of an image.
