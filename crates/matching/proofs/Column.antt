@@ -11,6 +11,8 @@ use Rattle.std.proofs.shelf.Signed.{ints}
 use Rattle.std.proofs.shelf.Tests.{cases-lt, eq-eqb, ne-eqb}
 use Rattle.matching.specs.Counts.{sum, sum-signed, greatest, Is-greatest}
 use Rattle.matching.specs.Column.{gain, Choice, Is-column-value, fewest, spread, column-value}
+use Rattle.std.proofs.shelf.Bits.{mul-le}
+use Rattle.matching.proofs.Ranges.{Within}
 use Rattle.matching.proofs.Sums.{sum-same, sum-signed-same, sum-le, greatest-is, times-within}
 
 -- k with a as the count of level l
@@ -107,3 +109,31 @@ module _ (γ : ℕ → ℤ) (n : ℕ → ℕ) (free : ℕ) where
     none-above = λ k w. omega (arith, ints);
   }
   column-value-is (suc l) black h = one-more l black (omega arith) (λ s p. column-value-is l s p)
+
+  -- how large a value can be, whatever the counts
+  module _ (b most : ℕ) (weights : (l : ℕ) → Within b (γ l)) where
+    pub column-value-within : (l black : ℕ) → black ≤ most → Within (l * (b * most)) (column-value γ n free l black)
+    unfolding column-value
+    column-value-within zero black h = (omega (arith, ints), omega (arith, ints))
+    column-value-within (suc l) black h =
+        let room : ℕ = free + sum l n in
+        let best = greatest-is (λ k. γ l *ℤ pos k +ℤ column-value γ n free l (black - k)) (fewest room black) (spread (n l) room black) in
+        let k : ℕ = fewest room black + best .at in
+        let few : k ≤ black = omega (arith, best .within) in
+        let here = times-within (γ l) b k (weights l .0) (weights l .1) in
+        let rest = column-value-within l (black - k) (omega arith) in
+        let size : b * k ≤ b * most = mul-le b k b most (omega arith) (omega arith) in
+        let all : suc l * (b * most) ≡ l * (b * most) + b * most = omega arith in
+        subst (Within (suc l * (b * most))) (best .reached) (omega (arith, ints, here .0, rest .0), omega (arith, ints, here .1, rest .1))
+
+-- equal weights and counts have equal values
+module _ (γ δ : ℕ → ℤ) (m n : ℕ → ℕ) (free : ℕ) where
+  pub column-value-same : (l : ℕ) → ((i : ℕ) → i < l → γ i ≡ δ i) → ((i : ℕ) → i < l → m i ≡ n i) → (black : ℕ) → column-value γ m free l black ≡ column-value δ n free l black
+  unfolding column-value
+  column-value-same zero e f black = refl
+  column-value-same (suc l) e f black =
+      let rooms : sum l m ≡ sum l n = sum-same l m n (λ i h. f i (omega arith)) in
+      let weight : γ l ≡ δ l = e l (omega arith) in
+      let count : m l ≡ n l = f l (omega arith) in
+      let rest = column-value-same l (λ i h. e i (omega arith)) (λ i h. f i (omega arith)) in
+      λ i. greatest (λ k. weight i *ℤ pos k +ℤ rest (black - k) i) (fewest (free + rooms i) black) (spread (count i) (free + rooms i) black)

@@ -191,3 +191,16 @@ unfolding greatest lowest
 greatest-at-lowest f zero = refl
 greatest-at-lowest f (suc n) =
     ap (maxZ (f (0 + suc n))) (greatest-at-lowest f n) ∙ lowest-value f n (lowest f n) (lowest-is f n)
+
+-- one step of each, as a loop makes it
+pub sum-more : (n : ℕ) (f : ℕ → ℕ) → sum (n + 1) f ≡ sum n f + f n
+unfolding sum
+sum-more n f = rw add-one refl
+
+pub sum-signed-more : (n : ℕ) (f : ℕ → ℤ) → sum-signed (n + 1) f ≡ sum-signed n f +ℤ f n
+unfolding sum-signed
+sum-signed-more n f = rw add-one refl
+
+pub greatest-step : (f : ℕ → ℤ) (a n : ℕ) → greatest f a (n + 1) ≡ maxZ (f (a + (n + 1))) (greatest f a n)
+unfolding greatest
+greatest-step f a n = rw add-one refl

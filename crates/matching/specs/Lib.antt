@@ -1,3 +1,4 @@
 pub mod Counts
 pub mod Column
+pub mod Words
 pub mod Printed
