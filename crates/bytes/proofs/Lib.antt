@@ -1,2 +1,4 @@
 pub mod Bits
 pub mod Ranges
+pub mod Absent
+pub mod Stretches

@@ -9,7 +9,7 @@ use native.Mathlib.Omega.{arith}
 use lib.ListN.{length}
 use Rattle.std.proofs.shelf.Bits.{mul-le}
 use Rattle.std.proofs.shelf.Tests.{cases-lt}
-use Rattle.face.specs.Fields.{count, levels, box-width, columns-before, columns-start}
+use Rattle.face.specs.Fields.{count, levels, box-width, columns-before, column-start, columns-start}
 use Rattle.face.specs.Laid.{Face-laid}
 
 pub columns-more : (face : List ℕ) (t : ℕ) → columns-before face (t + 1) ≡ columns-before face t + box-width face t
@@ -37,3 +37,10 @@ columns-within face t laid h =
 -- column c of template t is one of all columns
 pub column-there : (face : List ℕ) (t c : ℕ) → t < count face → c < box-width face t → columns-before face t + c < columns-before face (count face)
 column-there face t c h k = omega (arith, columns-more face t, columns-mono face (t + 1) (count face) (omega arith))
+
+-- columns begin one after the other, each after as many bytes as columns come before it
+pub starts-mono : (face : List ℕ) (first end : ℕ) → first ≤ end → column-start face first ≤ column-start face end
+starts-mono face first end h = omega (arith, mul-le (levels face) first (levels face) end (omega arith) h)
+
+pub starts-over : (face : List ℕ) (column : ℕ) → 1 ≤ levels face → column ≤ column-start face column
+starts-over face column h = omega (arith, mul-le 1 column (levels face) column h (omega arith))

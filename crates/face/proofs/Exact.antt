@@ -12,12 +12,13 @@ use lib.ListN.{length}
 use Rattle.std.proofs.shelf.Bits.{div-add-mod', div-mul-add, mod-mul-add, mod-below, div-below, mul-add-lt}
 use Rattle.std.proofs.shelf.Ways.{decides-and, decides-eqb, decides-like}
 use Rattle.std.specs.Orderings.{Decides}
+use Rattle.std.specs.Results.{isOk}
 use Rattle.bytes.specs.Bits.{Bit}
 use Rattle.bytes.specs.Numbers.{byte-at}
 use Rattle.bytes.proofs.Bits.{bits-below, bits-apart}
 use Rattle.bytes.proofs.Ranges.{decides-leb, decides-from-to, decides-signed}
 use Rattle.refusal.specs.First.{Exactly, ensure, first-refusal}
-use Rattle.refusal.proofs.First.{decides-each, exactly-ensure, exactly-each, exactly-none, exactly-more, exactly-given, exactly-like}
+use Rattle.refusal.proofs.First.{decides-each, exactly-ensure, exactly-each, exactly-none, exactly-more, exactly-given, exactly-like, ok-from-isOk}
 use Rattle.refusal.specs.declared.Refusal.the-variants.{FaceSize, FaceHead, FaceTruncated, FaceLevel, FaceTemplate, FaceLength, FaceWord}
 use Rattle.face.specs.Fields.{count, levels, height, level-start, gamma, beta, template-start, name, setwidth, box-width, prior, word-start, word-at, columns-before}
 use Rattle.face.specs.Verdict.{Headed, sized, level-lawful, spare-lawful, template-lawful, words, apart, word-lawful, levels-verdict, templates-verdict, length-verdict, words-verdict, head-verdict, checks-verdict, face-verdict}
@@ -123,3 +124,7 @@ module _ (face : List ℕ) where
       (exactly-more (templates-verdict face) _ (exactly-each (count face) (template-lawful face) _ _ (λ t _. decides-template t))
       (exactly-more (length-verdict face) _ (exactly-ensure _ _ (decides-eqb (length face) (word-start face (words face))))
       (exactly-more (words-verdict face) _ (exactly-words (h .levelled .0)) exactly-none)))))
+
+-- what a face that is refused nothing is
+pub laid-from-isOk : (face : List ℕ) → isOk (face-verdict face) ≡ true → Face-laid face
+laid-from-isOk face ok = exactly-laid face .0 (ok-from-isOk (face-verdict face) ok)

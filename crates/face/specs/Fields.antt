@@ -1,8 +1,10 @@
 -- Where a face's bytes hold what. Assumes nothing.
-use mathlib.Core.Bool.{Bool}
+use mathlib.Core.Bool.{Bool, _&&_}
 use mathlib.Core.List.{List}
 use Prim.Native.Nat.{ℕ, zero, suc, _+_, _*_}
+use lib.Dec.{leb}
 use lib.IntN.{ℤ, pos}
+use lib.ListN.{length}
 use lib.Signed.{ltZ}
 use Rattle.bytes.specs.Numbers.{byte-at, u16-at, u32-at, i16-at}
 
@@ -58,6 +60,13 @@ unfoldable pub columns-before : List ℕ → ℕ → ℕ
 columns-before face zero = 0
 columns-before face (suc t) = columns-before face t + box-width face t
 
--- where the columns of template t begin
+-- where a column begins, where columns are counted over all templates; and where those of template t do
+abbrev pub column-start : List ℕ → ℕ → ℕ
+column-start face column = word-start face (levels face * column)
+
 abbrev pub columns-start : List ℕ → ℕ → ℕ
-columns-start face t = word-start face (levels face * columns-before face t)
+columns-start face t = column-start face (columns-before face t)
+
+-- the columns from first to before end are there
+abbrev pub columns-there : List ℕ → ℕ → ℕ → Bool
+columns-there face first end = leb first end && leb (column-start face end) (length face)

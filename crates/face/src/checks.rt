@@ -7,7 +7,7 @@ ghost use Rattle.std.specs.Results.{isOk};
 ghost use Rattle.std.specs.Vec.{made};
 ghost use Rattle.bytes.specs.Ranges.{from-to, signed-from-to};
 ghost use Rattle.refusal.specs.First.{each, first-failing, Is-first, Exactly};
-ghost use Rattle.face.specs.Fields.{word-at, word-start, count, levels, height, level-start, template-start, columns-before};
+ghost use Rattle.face.specs.Fields.{word-at, word-start, count, levels, height, level-start, template-start, columns-before, column-start};
 ghost use Rattle.face.specs.Laid.{Face-laid};
 ghost use Rattle.face.specs.Verdict.{spare-lawful, head-verdict, level-lawful, levels-verdict, template-lawful, templates-verdict, word-lawful, apart, words, length-verdict, words-verdict, checks-verdict, face-verdict, Headed};
 use bytes::byte_at;
@@ -102,6 +102,14 @@ pub(crate) fn word_start(bytes: &[u8], j: usize) -> usize
     ensures { λ r. ⌜ r ≡ word-start (now (bytes .entry)) j ⌝ }
 {
     template_start(bytes, usize::from(u16_at(bytes, 0))) + 4 * j
+}
+
+// The first byte of a column, where columns are counted over all templates.
+pub(crate) fn column_start(bytes: &[u8], column: usize) -> usize
+    requires { ⌜ column ≤ 65536 ⌝ }
+    ensures { λ r. ⌜ r ≡ column-start (now (bytes .entry)) column ⌝ }
+{
+    word_start(bytes, usize::from(byte_at(bytes, 2)) * column)
 }
 
 // Whether each field of a template is in range, and its spare bytes are 0.

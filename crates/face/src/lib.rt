@@ -11,7 +11,7 @@ ghost use Rattle.std.specs.Slices.{found};
 ghost use Rattle.std.specs.declared.result.Result.the-variants.{Ok};
 ghost use Rattle.std.specs.shelf.Lists.{between};
 ghost use Rattle.bytes.specs.Absent.{present};
-ghost use Rattle.face.specs.Fields.{count as count-of, levels as levels-of, height as height-of, gamma as gamma-of, write-white, beta as beta-of, name as name-of, setwidth as setwidth-of, box-width, prior as prior-of, columns-start, level-start, template-start};
+ghost use Rattle.face.specs.Fields.{count as count-of, levels as levels-of, height as height-of, gamma as gamma-of, write-white, beta as beta-of, name as name-of, setwidth as setwidth-of, box-width, prior as prior-of, columns-start, column-start, columns-there, level-start, template-start};
 ghost use Rattle.face.specs.Laid.{Face-laid};
 ghost use Rattle.face.specs.Verdict.{face-verdict};
 
@@ -21,6 +21,7 @@ use bytes::byte_at;
 use bytes::i16_at;
 use bytes::u16_at;
 pub use checks::check;
+use checks::column_start;
 use checks::columns_before;
 use checks::level_start;
 use checks::template_start;
@@ -132,6 +133,35 @@ impl<'a> Face<'a> {
         self.template_at(t)?;
         let Stretch { start, end } = stretch_of(self.bytes, t);
         Some(&self.bytes[start..end])
+    }
+
+    // The columns from `first` to before `end`, where columns are counted over all templates, as they lie in the face's
+    // own bytes.
+    pub fn columns_between(&self, first: usize, end: usize) -> Option<&'a [u8]>
+        ensures { λ r. ⌜ mapped held r ≡ present (columns-there (held (now (self .entry) .bytes)) first end) (between (column-start (held (now (self .entry) .bytes)) first) (column-start (held (now (self .entry) .bytes)) end) (held (now (self .entry) .bytes))) ⌝ }
+    {
+        let Stretch { start, end } = self.stretch_between(first, end)?;
+        Some(&self.bytes[start..end])
+    }
+
+    // The stretch of the bytes that holds the columns from `first` to before `end`.
+    fn stretch_between(&self, first: usize, end: usize) -> Option<Stretch>
+        ensures value { λ r. ⌜ r ≡ present (columns-there (held (now (self .entry) .bytes)) first end) (record { start = column-start (held (now (self .entry) .bytes)) first; end = column-start (held (now (self .entry) .bytes)) end }) ⌝ }
+        ensures within { λ r. ⌜ found r (λ s. (s .start ≤ s .end) × (s .end ≤ length (held (now (self .entry) .bytes)))) ⌝ }
+    {
+        laid(self.bytes);
+        if first > end || end > self.bytes.len() {
+            return None;
+        }
+        let stretch = Stretch {
+            start: column_start(self.bytes, first),
+            end: column_start(self.bytes, end),
+        };
+        if stretch.end <= self.bytes.len() {
+            Some(stretch)
+        } else {
+            None
+        }
     }
 
     // The first byte of a level.

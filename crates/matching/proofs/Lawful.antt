@@ -16,7 +16,7 @@ use Rattle.face.proofs.Columns.{column-there}
 use Rattle.scorer.specs.Meaning.{Meaning, Lawful, Node, Score-within, Scores-lawful, Shift-within, is-template}
 use Rattle.matching.specs.Counts.{sum, sum-signed, count-of, one-if, greatest, lowest}
 use Rattle.matching.specs.Column.{gain, Choice, column-value, Is-column-value}
-use Rattle.matching.specs.Printed.{Image, has-bit, pixel, rows, column-pixels, pixels, base, free-rows, column-over-black, over-black, score-at, exact-score, shift-of, black-count, bound-score, printed-meaning}
+use Rattle.matching.specs.Printed.{Image, has-bit, pixel, rows, column-pixels, pixels, base, free-rows, value-of, column-over-black, over-black, score-at, exact-score, shift-of, black-count, bound-score, printed-meaning}
 use Rattle.matching.proofs.Sums.{sum-same, sum-signed-same, sum-signed-le, sum-le, sum-swap, sum-signed-swap, times-sum, greatest-is, lowest-is}
 use Rattle.matching.proofs.Column.{column-value-is}
 use Rattle.matching.proofs.Ranges.{Within, within-add, within-more, gain-within, sum-within, sum-most}
@@ -72,16 +72,17 @@ module _ (face : List ℕ) (laid : Face-laid face) (t : ℕ) (there : t < count 
 
   module _ (image : Image) (x : ℕ) where
     -- what lies over black in a box column is a choice
-    column-choice : (s c : ℕ) → s ≤ 4 → c < box-width face t → Choice (column-pixels face t c) (levels face) (free-rows face t c) (black-count face image (x + c)) (column-over-black face image x t s c)
+    column-choice : (s c : ℕ) → s ≤ 4 → c < box-width face t → Choice (column-pixels face t c) (levels face) (free-rows face (columns-before face t + c)) (black-count face image (x + c)) (column-over-black face image x t s c)
     column-choice s c low h = over-black-choice (levels face) (height face) (pixel face t c) (levels-apart c h) (image (x + c)) s low
 
     abbrev value : ℕ → ℤ
-    value c = column-value (gamma face) (column-pixels face t c) (free-rows face t c) (levels face) (black-count face image (x + c))
+    value c = value-of face (columns-before face t + c) (black-count face image (x + c))
 
     -- the column's value is the greatest that a choice earns
-    pub value-is : (c : ℕ) → c < box-width face t → Is-column-value (gamma face) (column-pixels face t c) (levels face) (free-rows face t c) (black-count face image (x + c)) (value c)
+    pub value-is : (c : ℕ) → c < box-width face t → Is-column-value (gamma face) (column-pixels face t c) (levels face) (free-rows face (columns-before face t + c)) (black-count face image (x + c)) (value c)
+    unfolding value-of
     value-is c h =
-        column-value-is (gamma face) (column-pixels face t c) (free-rows face t c) (levels face) (black-count face image (x + c))
+        column-value-is (gamma face) (column-pixels face t c) (free-rows face (columns-before face t + c)) (levels face) (black-count face image (x + c))
         (omega (arith, count-le (height face + 4) (image (x + c)), column-few c h))
 
     score-not-above : (s : ℕ) → s ≤ 4 → score-at face image x t s ≤ℤ bound-score face image x t

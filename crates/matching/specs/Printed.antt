@@ -27,9 +27,13 @@ module _ (face : List ℕ) where
   abbrev pub rows : ℕ
   rows = height face + 4
 
-  -- how many pixels a level has, in one column of the box and in all
+  -- how many pixels a level has: in one column, where columns are counted over all templates,
+  abbrev pub ink : ℕ → ℕ → ℕ
+  ink column l = count-of (height face) (has-bit (column-word face column l))
+
+  -- in column c of a template's box, and in all of them
   abbrev pub column-pixels : ℕ → ℕ → ℕ → ℕ
-  column-pixels t c l = count-of (height face) (pixel t c l)
+  column-pixels t c l = ink (columns-before face t + c) l
 
   abbrev pub pixels : ℕ → ℕ → ℕ
   pixels t l = sum (box-width face t) (λ c. column-pixels t c l)
@@ -38,9 +42,13 @@ module _ (face : List ℕ) where
   abbrev pub base : ℕ → ℤ
   base t = prior face t +ℤ sum-signed (levels face) (λ l. beta face l *ℤ pos (pixels t l))
 
-  -- the rows of an image column that no pixel of a box column lies on
-  abbrev pub free-rows : ℕ → ℕ → ℕ
-  free-rows t c = rows - sum (levels face) (column-pixels t c)
+  -- what a column can earn at most over an image column with so many black pixels: of the image's rows, some have none
+  -- of the column's pixels on them
+  abbrev pub free-rows : ℕ → ℕ
+  free-rows column = rows - sum (levels face) (ink column)
+
+  unfoldable pub value-of : ℕ → ℕ → ℤ
+  value-of column black = column-value (gamma face) (ink column) (free-rows column) (levels face) black
 
   module _ (image : Image) where
     -- how many pixels of a level lie over black, where the box begins at column x and its row 0 lies on row s
@@ -69,7 +77,7 @@ module _ (face : List ℕ) where
     -- each box column earns at most its value
     unfoldable pub bound-score : ℕ → ℕ → ℤ
     bound-score x t =
-        base t +ℤ sum-signed (box-width face t) (λ c. column-value (gamma face) (column-pixels t c) (free-rows t c) (levels face) (black-count (x + c)))
+        base t +ℤ sum-signed (box-width face t) (λ c. value-of (columns-before face t + c) (black-count (x + c)))
 
     -- the line of that image, so many columns wide
     abbrev pub printed-meaning : ℕ → Meaning
