@@ -50,7 +50,7 @@ impl<'a> Sheet<'a> {
     }
 }
 
-impl<'a> Scorer for Sheet<'a> as SheetScorer {
+pub impl<'a> Scorer for Sheet<'a> as SheetScorer {
     ghost meaning = { λ s. sheet-meaning (held (s .bytes)) };
 
     ghost lawful = { λ s. sheet-lawful (held (s .bytes)) (s .lawful) };
