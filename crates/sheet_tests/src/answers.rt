@@ -1,5 +1,5 @@
 // What a sheet answers: at each node, at the edges, and at the largest numbers.
-use super::sample::SAMPLE;
+use super::sample::sample;
 use scorer::Scorer;
 use sheet::Sheet;
 use sheet::SheetScorer;
@@ -30,7 +30,7 @@ const CASES: [Case; 17] = [
 
 #[test]
 fn scores() -> Result<(), Fail> {
-    let bytes = &SAMPLE[0..54];
+    let bytes = &sample()[0..54];
     let Ok(()) = sheet_file::check(bytes) else {
         return Err(Fail::new("the sample is refused"));
     };
@@ -43,7 +43,7 @@ fn scores() -> Result<(), Fail> {
 
 #[test]
 fn columns_and_templates() -> Result<(), Fail> {
-    let bytes = &SAMPLE[0..54];
+    let bytes = &sample()[0..54];
     let Ok(()) = sheet_file::check(bytes) else {
         return Err(Fail::new("the sample is refused"));
     };

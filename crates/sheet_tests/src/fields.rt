@@ -1,5 +1,5 @@
 // Length, head and setwidths of a sheet: each refusal with its place, and each limit that is still lawful.
-use super::sample::SAMPLE;
+use super::sample::sample;
 use super::sample::told;
 use std::test::*;
 
@@ -32,7 +32,7 @@ fn each_head() -> Result<(), Fail> {
     for Head(width, count, number, place) in HEADS.iter() {
         let width = width.to_le_bytes();
         let count = count.to_le_bytes();
-        let mut sheet = SAMPLE;
+        let mut sheet = sample();
         sheet[0] = width[0];
         sheet[1] = width[1];
         sheet[2] = count[0];
@@ -53,10 +53,10 @@ fn each_length() -> Result<(), Fail> {
         } else {
             (33, length)
         };
-        check_eq(told(&SAMPLE[0..length]), expected)?;
+        check_eq(told(&sample()[0..length]), expected)?;
     }
-    check_eq(told(&SAMPLE[0..54]), (0, 0))?;
-    check_eq(told(&SAMPLE[0..55]), (33, 55))
+    check_eq(told(&sample()[0..54]), (0, 0))?;
+    check_eq(told(&sample()[0..55]), (33, 55))
 }
 
 #[test]
@@ -89,11 +89,31 @@ const SETWIDTHS: [Setwidths; 13] = [
 #[test]
 fn each_setwidth() -> Result<(), Fail> {
     for Setwidths(first, second, number, place) in SETWIDTHS.iter() {
-        let mut sheet = SAMPLE;
+        let mut sheet = sample();
         sheet[4] = *first;
         sheet[5] = *second;
         check_eq(told(&sheet[0..54]), (*number, *place))?;
         check_eq(told(&sheet[0..53]), (33, 53))?;
     }
     Ok(())
+}
+
+#[test]
+fn the_largest_sheet(rt: LibcRuntime) -> Result<(), Fail> {
+    let mut sheet = vec![in rt.alloc(); 0u8; 1_048_644]?;
+    sheet[1] = 8;
+    sheet[2] = 64;
+    check_eq(told(&sheet), (34, 4))?;
+    for setwidth in sheet.iter_mut().skip(4).take(64) {
+        *setwidth = 64;
+    }
+    check_eq(told(&sheet), (0, 0))?;
+    // The last template has its last node at 1,048,132.
+    check(sheet.len() == 1_048_644)?;
+    sheet[1_048_140] = 1;
+    check_eq(told(&sheet), (0, 0))?;
+    sheet[1_048_132] = 1;
+    check_eq(told(&sheet), (36, 1_048_132))?;
+    sheet.push(0)?;
+    check_eq(told(&sheet), (33, 1_048_645))
 }

@@ -1,5 +1,5 @@
 // The scores of a sheet: each refusal with its place, and what is still lawful.
-use super::sample::SAMPLE;
+use super::sample::sample;
 use super::sample::told;
 use super::sample::with_scores;
 use std::test::*;
@@ -36,7 +36,7 @@ const SCORES: [Scores; 22] = [
 fn each_score_of_each_node() -> Result<(), Fail> {
     for at in [6usize, 14, 22, 30, 38] {
         for Scores(exact, bound, number) in SCORES.iter() {
-            let sheet = with_scores(SAMPLE, at, *exact, *bound)?;
+            let sheet = with_scores(sample(), at, *exact, *bound)?;
             let place = if *number == 0 { 0 } else { at };
             check_eq(told(&sheet[0..54]), (*number, place))?;
         }
@@ -47,25 +47,25 @@ fn each_score_of_each_node() -> Result<(), Fail> {
 #[test]
 fn no_node_may_hold_anything() -> Result<(), Fail> {
     for Scores(exact, bound, _) in SCORES.iter() {
-        let sheet = with_scores(SAMPLE, 46, *exact, *bound)?;
+        let sheet = with_scores(sample(), 46, *exact, *bound)?;
         check_eq(told(&sheet[0..54]), (0, 0))?;
     }
     Ok(())
 }
 
-// Two faults in one entry: which of them is told depends only on whether the entry is a node.
+// An entry is read or passed over by the setwidth of its template.
 #[test]
 fn setwidths_say_what_is_a_node() -> Result<(), Fail> {
-    let mut sheet = with_scores(SAMPLE, 38, i32::MAX, i32::MIN)?;
+    let mut sheet = with_scores(sample(), 38, i32::MAX, i32::MIN)?;
     check_eq(told(&sheet[0..54]), (35, 38))?;
     sheet[5] = 3;
     check_eq(told(&sheet[0..54]), (0, 0))?;
     sheet[5] = 1;
     check_eq(told(&sheet[0..54]), (35, 38))?;
-    let mut last = SAMPLE;
+    let mut last = sample();
     last[5] = 1;
     check_eq(told(&last[0..54]), (35, 46))?;
-    let mut ordered = with_scores(SAMPLE, 22, 1, 0)?;
+    let mut ordered = with_scores(sample(), 22, 1, 0)?;
     check_eq(told(&ordered[0..54]), (36, 22))?;
     ordered[4] = 2;
     check_eq(told(&ordered[0..54]), (0, 0))
@@ -73,7 +73,7 @@ fn setwidths_say_what_is_a_node() -> Result<(), Fail> {
 
 #[test]
 fn all_scores_come_before_any_order() -> Result<(), Fail> {
-    let order = with_scores(SAMPLE, 6, 1, 0)?;
+    let order = with_scores(sample(), 6, 1, 0)?;
     check_eq(told(&order[0..54]), (36, 6))?;
     let later_score = with_scores(order, 38, 0, 4_000_001)?;
     check_eq(told(&later_score[0..54]), (35, 38))?;
@@ -85,7 +85,7 @@ fn all_scores_come_before_any_order() -> Result<(), Fail> {
 
 #[test]
 fn earlier_checks_hide_later_ones() -> Result<(), Fail> {
-    let mut sheet = with_scores(SAMPLE, 6, i32::MAX, 0)?;
+    let mut sheet = with_scores(sample(), 6, i32::MAX, 0)?;
     check_eq(told(&sheet[0..54]), (35, 6))?;
     sheet[5] = 65;
     check_eq(told(&sheet[0..54]), (34, 5))?;
