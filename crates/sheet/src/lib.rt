@@ -2,13 +2,13 @@
 ghost use denote.Ref.{now as held};
 ghost use mathlib.Core.Bool.{true};
 ghost use mathlib.Core.Path.{_≡_};
-ghost use Prim.Native.Nat.{_+_, _*_, _≤_, _<_, _^_};
+ghost use Prim.Native.Nat.{_*_, _≤_, _<_, _^_};
 ghost use Rattle.std.specs.Results.{isOk};
 ghost use Rattle.std.specs.Slices.{found};
 ghost use Rattle.std.specs.declared.result.Result.the-variants.{Ok};
 ghost use Rattle.bytes.specs.Absent.{present};
 ghost use Rattle.scorer.specs.Meaning.{is-node};
-ghost use Rattle.sheet_file.specs.Fields.{width as width-of, count as count-of, entry, entry-start};
+ghost use Rattle.sheet_file.specs.Fields.{width as width-of, count as count-of, node-entry, entry-start};
 ghost use Rattle.sheet_file.specs.Laid.{Sheet-laid};
 ghost use Rattle.sheet_file.specs.Meaning.{sheet-meaning};
 ghost use Rattle.sheet_file.specs.Verdict.{sheet-verdict};
@@ -36,7 +36,7 @@ impl<'a> Sheet<'a> {
 
     // The first byte of a node's entry.
     fn entry_at(&self, x: usize, t: usize) -> Option<usize>
-        ensures value { λ r. ⌜ r ≡ present (is-node (sheet-meaning (held (now (self .entry) .bytes))) x t) (entry-start (held (now (self .entry) .bytes)) (entry (held (now (self .entry) .bytes)) x t)) ⌝ }
+        ensures value { λ r. ⌜ r ≡ present (is-node (sheet-meaning (held (now (self .entry) .bytes))) x t) (entry-start (held (now (self .entry) .bytes)) (node-entry (held (now (self .entry) .bytes)) x t)) ⌝ }
         ensures bound { λ r. ⌜ found r (λ at. at < 2 ^ 40) ⌝ }
     {
         let setwidth = self.setwidth(t)?;

@@ -1,8 +1,8 @@
 -- The check of a sheet refuses nothing exactly if its layout holds. Assumes nothing.
 use mathlib.Core.Path.{_≡_, refl, ap, subst}
 use mathlib.Core.Bool.{Bool, true, false, not, _||_}
-use mathlib.Core.List.{List, [], _∷_}
-use Prim.Native.Nat.{ℕ, _+_, _*_, _/_, _%_, _≤_, _<_}
+use mathlib.Core.List.{List}
+use Prim.Native.Nat.{ℕ, _+_, _/_, _%_, _≤_, _<_}
 use native.Mathlib.Omega.{arith}
 use lib.ListN.{length}
 use lib.Signed.{_≤ℤ_}
@@ -15,7 +15,7 @@ use Rattle.refusal.specs.First.{Verdict, Exactly}
 use Rattle.refusal.proofs.First.{exactly-ensure, exactly-each, exactly-none, exactly-more, exactly-given, exactly-like}
 use Rattle.refusal.specs.declared.Refusal.the-variants.{SheetTruncated, SheetHead}
 use Rattle.scorer.specs.Meaning.{Score-within}
-use Rattle.sheet_file.specs.Fields.{width, count, setwidth, entries, entry, entry-start, exact-at, bound-at}
+use Rattle.sheet_file.specs.Fields.{width, count, setwidth, entries, node-entry, entry-start, exact-at, bound-at}
 use Rattle.sheet_file.specs.Verdict.{Headed, setwidth-lawful, entry-node, scores-within, scores-ordered, score-lawful, order-lawful, head-verdict, length-verdict, setwidths-verdict, scores-verdict, orders-verdict, sheet-verdict}
 use Rattle.sheet_file.specs.Laid.{Sheet-laid}
 
@@ -30,7 +30,7 @@ Entry-node sheet j = j % width sheet + setwidth sheet (j / width sheet) ≤ widt
 
 -- what holds of the entry of each node
 abbrev Each-node : List ℕ → (ℕ → Type 0) → Type 0
-Each-node sheet P = (x t : ℕ) → t < count sheet → x + setwidth sheet t ≤ width sheet → P (entry sheet x t)
+Each-node sheet P = (x t : ℕ) → t < count sheet → x + setwidth sheet t ≤ width sheet → P (node-entry sheet x t)
 
 abbrev Each-set : List ℕ → Type 0
 Each-set sheet = (t : ℕ) → t < count sheet → (1 ≤ setwidth sheet t) × (setwidth sheet t ≤ 64)
@@ -44,9 +44,9 @@ Ordered sheet j = exact-at sheet j ≤ℤ bound-at sheet j
 module _ (sheet : List ℕ) where
   -- each node has an entry, and each entry that is a node has its column and template
   module _ (wide : 1 ≤ width sheet) (set : Each-set sheet) where
-    entry-is-node : (x t : ℕ) → x < width sheet → x + setwidth sheet t ≤ width sheet → Entry-node sheet (entry sheet x t)
+    entry-is-node : (x t : ℕ) → x < width sheet → x + setwidth sheet t ≤ width sheet → Entry-node sheet (node-entry sheet x t)
     entry-is-node x t low ends =
-        let same : setwidth sheet (entry sheet x t / width sheet) ≡ setwidth sheet t = ap (setwidth sheet) (div-mul-add t (width sheet) x low) in
+        let same : setwidth sheet (node-entry sheet x t / width sheet) ≡ setwidth sheet t = ap (setwidth sheet) (div-mul-add t (width sheet) x low) in
         omega (arith, same, mod-mul-add t (width sheet) x low)
 
     exactly-nodes : (P : ℕ → Type 0) (v : Verdict) → Exactly v ((j : ℕ) → j < entries sheet → Entry-node sheet j → P j) → Exactly v (Each-node sheet P)
@@ -54,8 +54,8 @@ module _ (sheet : List ℕ) where
         exactly-like v
         (λ all x t h ends.
         let low : x < width sheet = omega (arith, set t h .0) in
-        let inside : entry sheet x t < entries sheet = omega (arith, mul-add-lt t (width sheet) x (count sheet) h low) in
-        all (entry sheet x t) inside (entry-is-node x t low ends))
+        let inside : node-entry sheet x t < entries sheet = omega (arith, mul-add-lt t (width sheet) x (count sheet) h low) in
+        all (node-entry sheet x t) inside (entry-is-node x t low ends))
         (λ all j h node. subst P (div-add-mod' j (width sheet)) (all (j % width sheet) (j / width sheet) (div-below j (width sheet) (count sheet) wide h) node))
 
     exactly-scores : Exactly (scores-verdict sheet) (Each-node sheet (Within sheet))

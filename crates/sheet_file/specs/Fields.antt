@@ -22,8 +22,9 @@ setwidth sheet t = byte-at sheet (setwidth-start t)
 abbrev pub entries : List ℕ → ℕ
 entries sheet = count sheet * width sheet
 
-abbrev pub entry : List ℕ → ℕ → ℕ → ℕ
-entry sheet x t = t * width sheet + x
+-- the entry of column x and template t
+abbrev pub node-entry : List ℕ → ℕ → ℕ → ℕ
+node-entry sheet x t = t * width sheet + x
 
 abbrev pub entry-start : List ℕ → ℕ → ℕ
 entry-start sheet j = 4 + count sheet + 8 * j

@@ -1,7 +1,7 @@
 // The file of a sheet: a line's setwidths and scores, written down beforehand. Its checks, in their order.
 ghost use mathlib.Core.Path.{_≡_};
 ghost use mathlib.Core.Bool.{Bool};
-ghost use Prim.Native.Nat.{ℕ, _+_, _*_, _/_, _≤_, _<_, _^_};
+ghost use Prim.Native.Nat.{ℕ, _/_, _≤_, _<_, _^_};
 ghost use Rattle.std.specs.Vec.{made};
 ghost use Rattle.refusal.specs.First.{first-failing, Is-first, Exactly};
 ghost use Rattle.sheet_file.specs.Fields.{entries, entry-start};
