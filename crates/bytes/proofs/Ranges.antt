@@ -13,7 +13,7 @@ use Rattle.bytes.specs.Ranges.{from-to, signed-from-to}
 pub decides-leb : (a b : ℕ) → Decides (leb a b) (a ≤ b)
 decides-leb a b = (leb-true a b, le-leb a b)
 
-decides-leZ : (a b : ℤ) → Decides (leZ a b) (a ≤ℤ b)
+pub decides-leZ : (a b : ℤ) → Decides (leZ a b) (a ≤ℤ b)
 decides-leZ a b = (λ e. grind (arith, ints), λ e. grind (arith, ints))
 
 pub decides-from-to : (low high n : ℕ) → Decides (from-to low high n) ((low ≤ n) × (n ≤ high))

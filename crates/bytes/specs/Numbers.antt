@@ -5,7 +5,7 @@ use Prim.Native.Nat.{ℕ, _+_, _*_}
 use lib.Dec.{leb}
 use lib.IntN.{ℤ}
 use lib.ListN.{length, getD}
-use mir.Syntax.{w16}
+use mir.Syntax.{w16, w32}
 use mir.Val.{toZ}
 
 -- the byte at i, 0 past the end
@@ -26,3 +26,7 @@ u32-at bs i =
 -- the number whose two's complement in 16 bits they are
 abbrev pub i16-at : List ℕ → ℕ → ℤ
 i16-at bs i = toZ w16 (u16-at bs i)
+
+-- the number whose two's complement in 32 bits they are
+abbrev pub i32-at : List ℕ → ℕ → ℤ
+i32-at bs i = toZ w32 (u32-at bs i)

@@ -1,7 +1,7 @@
 // Numbers as the files hold them: low byte first, signed ones in two's complement.
 ghost use mathlib.Core.Path.{_≡_};
 ghost use Rattle.std.specs.Options.{valueOr};
-ghost use Rattle.bytes.specs.Numbers.{byte-at, u16-at, u32-at, i16-at};
+ghost use Rattle.bytes.specs.Numbers.{byte-at, u16-at, u32-at, i16-at, i32-at};
 
 // The byte at `at`, or 0 past the end.
 pub fn byte_at(bytes: &[u8], at: usize) -> u8
@@ -29,6 +29,13 @@ pub fn i16_at(bytes: &[u8], at: usize) -> i16
     ensures { λ r. ⌜ r ≡ i16-at (now (bytes .entry)) at ⌝ }
 {
     u16_at(bytes, at).cast_signed()
+}
+
+// The signed number of the four bytes at `at`, or 0 where the bytes end before it does.
+pub fn i32_at(bytes: &[u8], at: usize) -> i32
+    ensures { λ r. ⌜ r ≡ i32-at (now (bytes .entry)) at ⌝ }
+{
+    u32_at(bytes, at).cast_signed()
 }
 
 fn one_byte(bytes: &[u8], at: usize) -> Option<u8>
