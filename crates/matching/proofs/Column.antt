@@ -71,9 +71,9 @@ module _ (γ : ℕ → ℤ) (n : ℕ → ℕ) (free : ℕ) where
     unfolding sum
     more-allowed = record {
       few = λ i h. ⊎-elim
-        (λ lt. subst (λ q. q ≤ n i) (sym (put-below (below .choice) l a i lt)) (below .allowed .few i lt))
-        (λ le. let e : i ≡ l = omega arith in subst (λ j. k j ≤ n j) (sym e) (subst (λ q. q ≤ n l) (sym here) a-few))
-        (cases-lt i l);
+          (λ lt. subst (λ q. q ≤ n i) (sym (put-below (below .choice) l a i lt)) (below .allowed .few i lt))
+          (λ le. let e : i ≡ l = omega arith in subst (λ j. k j ≤ n j) (sym e) (subst (λ q. q ≤ n l) (sym here) a-few))
+          (cases-lt i l);
       not-over = omega (arith, k-sum, here, below .allowed .not-over, a-black);
       not-under = omega (arith, k-sum, here, below .allowed .not-under, a-black);
     }

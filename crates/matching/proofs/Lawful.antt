@@ -93,9 +93,13 @@ module _ (face : List ℕ) (laid : Face-laid face) (t : ℕ) (there : t < count 
 
     over-few : (s : ℕ) → sum (levels face) (over-black face image x t s) ≤ 1024
     over-few s =
-        omega (arith, pixels-in-all, sum-le (levels face) (over-black face image x t s) (pixels face t) (λ l _.
-        sum-le (box-width face t) (λ c. column-over-black face image x t s c l) (λ c. column-pixels face t c l) (λ c _.
-        sum-le (height face) (λ i. one-if (pixel face t c l i && image (x + c) (i + s))) (λ i. one-if (pixel face t c l i)) (λ i _. less (pixel face t c l i) (image (x + c) (i + s))))))
+        omega (
+          arith,
+          pixels-in-all,
+          sum-le (levels face) (over-black face image x t s) (pixels face t) (λ l _.
+              sum-le (box-width face t) (λ c. column-over-black face image x t s c l) (λ c. column-pixels face t c l) (λ c _.
+              sum-le (height face) (λ i. one-if (pixel face t c l i && image (x + c) (i + s))) (λ i. one-if (pixel face t c l i)) (λ i _. less (pixel face t c l i) (image (x + c) (i + s))))),
+        )
       where
         less : (p b : Bool) → one-if (p && b) ≤ one-if p
         less true true = omega arith

@@ -72,8 +72,12 @@ module _ (levels height : ℕ) (p : ℕ → ℕ → Bool) (apart : (i : ℕ) →
   -- all levels have no more pixels than there are rows
   pub pixels-few : sum levels count-in ≤ height
   pixels-few =
-      omega (arith, sum-swap levels height (λ l i. one-if (p l i)), sum-ones height,
-      sum-le height (λ i. count-of levels (λ l. p l i)) (λ _. 1) (λ i h. at-most-one levels (λ l. p l i) (apart i h)))
+      omega (
+        arith,
+        sum-swap levels height (λ l i. one-if (p l i)),
+        sum-ones height,
+        sum-le height (λ i. count-of levels (λ l. p l i)) (λ _. 1) (λ i h. at-most-one levels (λ l. p l i) (apart i h)),
+      )
 
   module _ (b : ℕ → Bool) (s : ℕ) (high : s ≤ 4) where
     abbrev over : ℕ → ℕ
@@ -106,8 +110,15 @@ module _ (levels height : ℕ) (p : ℕ → ℕ → Bool) (apart : (i : ℕ) →
         let n = sum-swap levels height (λ l i. one-if (p l i)) in
         let left = sum-add height (λ i. one-if (b (i + s))) (λ i. count-of levels (λ l. p l i)) in
         let right = sum-add height (λ i. count-of levels (λ l. p l i && b (i + s))) (λ _. 1) in
-        omega (arith, n, left, right, by-rows, sum-ones height,
-        sum-le height (λ i. one-if (b (i + s)) + count-of levels (λ l. p l i)) (λ i. count-of levels (λ l. p l i && b (i + s)) + 1) (λ i h. row-under levels (λ l. p l i) (apart i h) (b (i + s))))
+        omega (
+          arith,
+          n,
+          left,
+          right,
+          by-rows,
+          sum-ones height,
+          sum-le height (λ i. one-if (b (i + s)) + count-of levels (λ l. p l i)) (λ i. count-of levels (λ l. p l i && b (i + s)) + 1) (λ i h. row-under levels (λ l. p l i) (apart i h) (b (i + s))),
+        )
 
     -- what lies over black is a choice
     pub over-black-choice : Choice count-in levels (height + 4 - sum levels count-in) (count-of (height + 4) b) over

@@ -112,18 +112,18 @@ times-within g b (suc n) low high =
 module _ (f : ℕ → ℤ) (a n : ℕ) (v : ℤ) (before : Is-greatest f a n v) where
   under : (w : ℤ) → v ≤ℤ w → f (a + suc n) ≤ℤ w → (i : ℕ) → i ≤ suc n → f (a + i) ≤ℤ w
   under w p q i h = ⊎-elim
-    (λ lt. omega (arith, ints, before .none-above i (omega arith)))
-    (λ le. let e : i ≡ suc n = omega arith in omega (arith, ints, ap (λ k. f (a + k)) e))
-    (cases-lt i (suc n))
+      (λ lt. omega (arith, ints, before .none-above i (omega arith)))
+      (λ le. let e : i ≡ suc n = omega arith in omega (arith, ints, ap (λ k. f (a + k)) e))
+      (cases-lt i (suc n))
 
   greatest-more : Is-greatest f a (suc n) (maxZ (f (a + suc n)) v)
   greatest-more = by-ltZ v (f (a + suc n))
-    (λ h.
-    let top : f (a + suc n) ≡ maxZ (f (a + suc n)) v = grind (arith, ints) in
-    record { at = suc n; within = omega arith; reached = top; none-above = λ i k. omega (arith, ints, top, under (f (a + suc n)) (omega (arith, ints)) (omega (arith, ints)) i k) })
-    (λ h.
-    let top : v ≡ maxZ (f (a + suc n)) v = grind (arith, ints) in
-    record { at = before .at; within = omega (arith, before .within); reached = before .reached ∙ top; none-above = λ i k. omega (arith, ints, top, under v (omega (arith, ints)) h i k) })
+      (λ h.
+      let top : f (a + suc n) ≡ maxZ (f (a + suc n)) v = grind (arith, ints) in
+      record { at = suc n; within = omega arith; reached = top; none-above = λ i k. omega (arith, ints, top, under (f (a + suc n)) (omega (arith, ints)) (omega (arith, ints)) i k) })
+      (λ h.
+      let top : v ≡ maxZ (f (a + suc n)) v = grind (arith, ints) in
+      record { at = before .at; within = omega (arith, before .within); reached = before .reached ∙ top; none-above = λ i k. omega (arith, ints, top, under v (omega (arith, ints)) h i k) })
 
 -- the greatest is what it is called
 pub greatest-is : (f : ℕ → ℤ) (a n : ℕ) → Is-greatest f a n (greatest f a n)
@@ -140,26 +140,26 @@ greatest-is f a (suc n) = greatest-more f a n (greatest f a n) (greatest-is f a 
 module _ (f : ℕ → ℤ) (n b : ℕ) (before : Is-lowest f n b) where
   lowest-more : Is-lowest f (suc n) (cond (ltZ (f b) (f (suc n))) (suc n) b)
   lowest-more = by-ltZ (f b) (f (suc n))
-    (λ h.
-    let top : suc n ≡ cond (ltZ (f b) (f (suc n))) (suc n) b = grind (arith, ints) in
-    subst (Is-lowest f (suc n)) top (record {
-      within = omega arith;
-      none-above = λ k p. ⊎-elim
-        (λ lt. omega (arith, ints, before .none-above k (omega arith)))
-        (λ le. let e : k ≡ suc n = omega arith in omega (arith, ints, ap f e))
-        (cases-lt k (suc n));
-      first = λ k p. omega (arith, ints, before .none-above k (omega arith));
-    }))
-    (λ h.
-    let top : b ≡ cond (ltZ (f b) (f (suc n))) (suc n) b = grind (arith, ints) in
-    subst (Is-lowest f (suc n)) top (record {
-      within = omega (arith, before .within);
-      none-above = λ k p. ⊎-elim
-        (λ lt. before .none-above k (omega arith))
-        (λ le. let e : k ≡ suc n = omega arith in omega (arith, ints, ap f e))
-        (cases-lt k (suc n));
-      first = before .first;
-    }))
+      (λ h.
+      let top : suc n ≡ cond (ltZ (f b) (f (suc n))) (suc n) b = grind (arith, ints) in
+      subst (Is-lowest f (suc n)) top (record {
+        within = omega arith;
+        none-above = λ k p. ⊎-elim
+            (λ lt. omega (arith, ints, before .none-above k (omega arith)))
+            (λ le. let e : k ≡ suc n = omega arith in omega (arith, ints, ap f e))
+            (cases-lt k (suc n));
+        first = λ k p. omega (arith, ints, before .none-above k (omega arith));
+      }))
+      (λ h.
+      let top : b ≡ cond (ltZ (f b) (f (suc n))) (suc n) b = grind (arith, ints) in
+      subst (Is-lowest f (suc n)) top (record {
+        within = omega (arith, before .within);
+        none-above = λ k p. ⊎-elim
+            (λ lt. before .none-above k (omega arith))
+            (λ le. let e : k ≡ suc n = omega arith in omega (arith, ints, ap f e))
+            (cases-lt k (suc n));
+        first = before .first;
+      }))
 
   -- and its value is the greatest of one more
   lowest-value : maxZ (f (0 + suc n)) (f b) ≡ f (cond (ltZ (f b) (f (suc n))) (suc n) b)

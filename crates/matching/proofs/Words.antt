@@ -47,7 +47,7 @@ low-bit hi n lo i h k =
     let e : d + (1 + i) ≡ n = omega arith in
     let low-part : w % 2 ^ n ≡ lo = low hi n h in
     let cut : w % 2 ^ (1 + i) ≡ lo % 2 ^ (1 + i) =
-        sym (mod-mod-pow w d (1 + i)) ∙ ap (λ q. w % 2 ^ q % 2 ^ (1 + i)) e ∙ ap (λ q. q % 2 ^ (1 + i)) low-part in
+    sym (mod-mod-pow w d (1 + i)) ∙ ap (λ q. w % 2 ^ q % 2 ^ (1 + i)) e ∙ ap (λ q. q % 2 ^ (1 + i)) low-part in
     sym (field w 1 i) ∙ ap (λ q. q / 2 ^ i) cut ∙ field lo 1 i
 
 -- bit i of the word is pixel i
@@ -87,7 +87,7 @@ ones-counted (suc n) v h =
     let first : one-if (has-bit v 0) ≡ v % 2 = ap (λ q. one-if (eqb (q % 2) 1)) (over-one v) ∙ bit-of (v % 2) (mod-below v 2 (omega arith)) in
     let split : count-of (n + 1) (has-bit v) ≡ count-of 1 (has-bit v) + count-of n (λ i. has-bit v (i + 1)) = sum-split 1 n (λ i. one-if (has-bit v i)) in
     let rest : count-of n (λ i. has-bit v (i + 1)) ≡ count-of n (has-bit (v / 2)) =
-        sum-same n (λ i. one-if (has-bit v (i + 1))) (λ i. one-if (has-bit (v / 2) i)) (λ i _. ap (λ q. one-if (eqb (q % 2) 1)) (half v i)) in
+    sum-same n (λ i. one-if (has-bit v (i + 1))) (λ i. one-if (has-bit (v / 2) i)) (λ i _. ap (λ q. one-if (eqb (q % 2) 1)) (half v i)) in
     omega (arith, ones-step v, ones-counted n (v / 2) below, first, split, rest, ap (λ q. count-of q (has-bit v)) e)
   where
     over-one : (v : ℕ) → v / 2 ^ 0 ≡ v

@@ -58,8 +58,12 @@ module _ (face : List ℕ) where
     -- all columns of the box lie in the bytes
     pub box-inside : column-start face (first + box-width face t) ≤ length face
     box-inside =
-        omega (arith, laid .ends, starts-mono face (first + box-width face t) (columns-before face (count face))
-        (omega (arith, columns-more face t, columns-mono face (t + 1) (count face) (omega arith))))
+        omega (
+          arith,
+          laid .ends,
+          starts-mono face (first + box-width face t) (columns-before face (count face))
+              (omega (arith, columns-more face t, columns-mono face (t + 1) (count face) (omega arith))),
+        )
 
     module _ (c : ℕ) (within : c < box-width face t) where
       -- the word of a level in a column of the box
@@ -102,5 +106,5 @@ module _ (face : List ℕ) where
             ap (λ n. gain (weight (weights-of face)) n (λ l. ones (bitAnd (glyph-word words (weights-of face) c l) v))) weights-length
             ∙ sum-signed-same L _ _ (λ l h.
             let over : ones (bitAnd (glyph-word words (weights-of face) c l) v) ≡ column-over-black face image x t s c l =
-                ap (λ w. ones (bitAnd w v)) (word-is l h) ∙ matched (column-word face (first + c) l) (height face) s (rows face) (image (x + c)) (below l h) (omega arith) in
+            ap (λ w. ones (bitAnd w v)) (word-is l h) ∙ matched (column-word face (first + c) l) (height face) s (rows face) (image (x + c)) (below l h) (omega arith) in
             λ i. weight-is l h i *ℤ pos (over i))

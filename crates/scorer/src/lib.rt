@@ -8,6 +8,8 @@ ghost use Rattle.scorer.specs.Meaning.{Meaning, Lawful, setwidth-answer, at-no
 mod window;
 
 pub use window::Window;
+pub use window::WindowPlacedScorer;
+pub use window::WindowScorer;
 pub use window::check as check_window;
 
 // The five questions of one line. Each answers what the meaning says and changes nothing.
@@ -48,7 +50,7 @@ pub trait PlacedScorer: Scorer {
         ensures { λ r. ⌜ r ≡ at-node (Self·Scorer .meaning (now (self .entry))) (shifts (now (self .entry))) x t ⌝ };
 }
 
-impl<'a, S: Scorer> Scorer for &'a S as LentScorer {
+pub impl<'a, S: Scorer> Scorer for &'a S as LentScorer {
     ghost meaning = { λ s. S·Scorer .meaning (held s) };
 
     ghost lawful = { λ s. S·Scorer .lawful (held s) };
@@ -74,7 +76,7 @@ impl<'a, S: Scorer> Scorer for &'a S as LentScorer {
     }
 }
 
-impl<'a, S: PlacedScorer> PlacedScorer for &'a S as LentPlacedScorer {
+pub impl<'a, S: PlacedScorer> PlacedScorer for &'a S as LentPlacedScorer {
     ghost shifts = { λ s. S·PlacedScorer .shifts (held s) };
 
     ghost within = { λ s. S·PlacedScorer .within (held s) };

@@ -74,7 +74,7 @@ impl<S: Scorer> Window<S> {
     }
 }
 
-impl<S: Scorer> Scorer for Window<S> as WindowScorer {
+pub impl<S: Scorer> Scorer for Window<S> as WindowScorer {
     ghost meaning = { λ s. window-meaning (S·Scorer .meaning (s .below)) (s .first) (s .width) };
 
     ghost lawful = { λ s. window-lawful (S·Scorer .meaning (s .below)) (s .first) (s .width) (S·Scorer .lawful (s .below)) };
@@ -106,7 +106,7 @@ impl<S: Scorer> Scorer for Window<S> as WindowScorer {
     }
 }
 
-impl<S: PlacedScorer> PlacedScorer for Window<S> as WindowPlacedScorer {
+pub impl<S: PlacedScorer> PlacedScorer for Window<S> as WindowPlacedScorer {
     ghost shifts = { λ s. shifts-below (S·Scorer .meaning (s .below) .width) (s .first) (s .width) (S·PlacedScorer .shifts (s .below)) };
 
     ghost within = { λ s x t. S·PlacedScorer .within (s .below) (column-below (S·Scorer .meaning (s .below) .width) (s .first) (s .width) x) t };

@@ -16,11 +16,11 @@ returns-then-first-end c =
     let first = c .args .first in
     let end = c .args .end in
     elim (c .then-first-end .came) [
-      then-first-end·by·then-first-end w ↦ record { value = absent _ (and-left (leb first end) _ (lt-leb first end (w .if-first-end .taken))); within = tt }
-    | then-first-end·by·else-first-end·then-end-self w ↦
-      let over = starts-over b end (c .laid .ensures .levelled .0) in
-      let past : length b < column-start b end = omega (arith, w .if-end-self .taken) in
-      record { value = absent _ (and-right (leb first end) _ (lt-leb (column-start b end) (length b) past)); within = tt }
+      | then-first-end·by·then-first-end w ↦ record { value = absent _ (and-left (leb first end) _ (lt-leb first end (w .if-first-end .taken))); within = tt }
+      | then-first-end·by·else-first-end·then-end-self w ↦
+          let over = starts-over b end (c .laid .ensures .levelled .0) in
+          let past : length b < column-start b end = omega (arith, w .if-end-self .taken) in
+          record { value = absent _ (and-right (leb first end) _ (lt-leb (column-start b end) (length b) past)); within = tt }
     ]
 
 pub column-start-requires : need.column-start-requires

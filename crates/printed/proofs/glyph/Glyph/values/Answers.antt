@@ -49,6 +49,9 @@ loop-l-again c =
     let more = sum-more l counts in
     let count = c .ink .ensures in
     let light : Within 1000 (weight weights l) = decides-signed (negℤ (pos 1000)) (pos 1000) (weight weights l) .0 (glyph .light l) in
-    let fits : SFits w16 (weight weights l) = omega (arith, ints, light .0, light .1) in
-    (omega (arith, more, count .value), omega (arith, count .bound), λ black h.
-    c .lay-table .ensures black h ∙ laid-level (weight weights) counts free l (c .loop-l .table) _ _ _ black (toZ-ofZ w16 _ fits) (count .value) (inv .0) (inv .2) h)
+    let fits : SFits w16 (weight weights l) = omega (arith, ints, light .0, light .1) in (
+      omega (arith, more, count .value),
+      omega (arith, count .bound),
+      λ black h.
+          c .lay-table .ensures black h ∙ laid-level (weight weights) counts free l (c .loop-l .table) _ _ _ black (toZ-ofZ w16 _ fits) (count .value) (inv .0) (inv .2) h,
+    )
