@@ -44,3 +44,8 @@ starts-mono face first end h = omega (arith, mul-le (levels face) first (levels 
 
 pub starts-over : (face : List ℕ) (column : ℕ) → 1 ≤ levels face → column ≤ column-start face column
 starts-over face column h = omega (arith, mul-le 1 column (levels face) column h (omega arith))
+
+-- the columns before a template are fewer than the bytes
+pub columns-few : (face : List ℕ) (t : ℕ) → Face-laid face → t ≤ count face → columns-before face t ≤ 65536
+columns-few face t laid h =
+    omega (arith, columns-mono face t (count face) h, starts-over face (columns-before face (count face)) (laid .levelled .0), laid .ends, laid .sized .1)

@@ -204,3 +204,6 @@ sum-signed-more n f = rw add-one refl
 pub greatest-step : (f : ℕ → ℤ) (a n : ℕ) → greatest f a (n + 1) ≡ maxZ (f (a + (n + 1))) (greatest f a n)
 unfolding greatest
 greatest-step f a n = rw add-one refl
+
+pub sum-signed-onto : (a : ℤ) (n : ℕ) (f : ℕ → ℤ) → a +ℤ sum-signed n f +ℤ f n ≡ a +ℤ sum-signed (n + 1) f
+sum-signed-onto a n f = omega (arith, ints, sum-signed-more n f)

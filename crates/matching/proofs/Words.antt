@@ -4,6 +4,7 @@ use mathlib.Core.Bool.{Bool, true, false, _&&_}
 use mathlib.Core.Logic.{⊎-elim}
 use Prim.Native.Nat.{ℕ, zero, suc, _+_, _-_, _*_, _/_, _%_, _^_, _≤_, _<_}
 use native.Mathlib.Nat.{two-pow-succ}
+use native.Mathlib.Numerals.{add-one}
 use native.Mathlib.Omega.{arith}
 use lib.Bits.{bitAnd}
 use lib.Count.{ones, ones-step, ones-cat}
@@ -125,3 +126,8 @@ matched w height s rows b h k =
     ones-counted height (bitAnd w v) below
     ∙ sum-same height (λ i. one-if (has-bit (bitAnd w v) i)) (λ i. one-if (has-bit w i && b (i + s))) (λ i p.
     ap one-if (and-bit w v i ∙ ap (λ q. has-bit w i && q) (shifted-bit (word-of rows b) s i ∙ word-bit rows b (i + s) (omega arith))))
+
+-- one row more, as a loop adds it
+pub word-more : (n : ℕ) (p : ℕ → Bool) → word-of (n + 1) p ≡ one-if (p n) * 2 ^ n + word-of n p
+unfolding word-of
+word-more n p = rw add-one refl

@@ -18,3 +18,9 @@ added m n k a b x y z p q r v w few small =
     let outer : toZ w64 (ofZ w64 (a +ℤ b)) ≡ a +ℤ b = toZ-ofZ w64 (a +ℤ b) (fits-within k (a +ℤ b) small both) in
     let all : toZ w64 (ofZ w64 (a +ℤ toZ w64 (ofZ w64 b))) ≡ a +ℤ b = (λ i. toZ w64 (ofZ w64 (a +ℤ inner i))) ∙ outer in
     (all ∙ (λ i. p i +ℤ q i) ∙ r, subst (Within k) (sym all) both)
+
+-- a signed value that is handed on
+pub handed : (k : ℕ) (z v : ℤ) → z ≡ v → Within k z → k < 2 ^ 63 → (toZ w64 (ofZ w64 z) ≡ v) × Within k (toZ w64 (ofZ w64 z))
+handed k z v e w h =
+    let same : toZ w64 (ofZ w64 z) ≡ z = toZ-ofZ w64 z (fits-within k z h w) in
+    (same ∙ e, subst (Within k) (sym same) w)

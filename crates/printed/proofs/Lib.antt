@@ -1,3 +1,5 @@
 pub mod Adding
 pub mod Laying
+pub mod Pushing
 pub mod Ties
+pub mod Valued

@@ -24,14 +24,14 @@ use Rattle.face.specs.Laid.{Face-laid, column-word}
 use Rattle.face.proofs.Columns.{column-there, columns-more, columns-mono, starts-mono}
 use Rattle.matching.specs.Column.{gain, column-value}
 use Rattle.matching.specs.Counts.{sum, sum-signed, count-of, one-if}
-use Rattle.matching.specs.Printed.{Image, has-bit, pixel, rows, ink, column-pixels, free-rows, value-of, column-over-black, score-at, base, black-count}
+use Rattle.matching.specs.Printed.{Image, has-bit, pixel, pixels, rows, ink, column-pixels, free-rows, value-of, column-over-black, score-at, base, black-count}
 use Rattle.matching.specs.Words.{word-of}
 use Rattle.matching.proofs.Column.{column-value-same}
 use Rattle.matching.proofs.Lawful.{score-by-columns}
 use Rattle.matching.proofs.Sums.{sum-same, sum-signed-same}
 use Rattle.matching.proofs.Words.{matched, ones-counted}
 use Rattle.printed.specs.Glyph.{weight, light, glyph-word, ink as glyph-ink, column-gain, gain-at, ink-value}
-use Rattle.printed.specs.Tables.{weights-of, box-words, image-words, image-blacks}
+use Rattle.printed.specs.Tables.{weights-of, box-words, Boxed, image-words, image-blacks}
 
 module _ (face : List ℕ) where
   pub weights-length : length (weights-of face) ≡ levels face
@@ -108,3 +108,14 @@ module _ (face : List ℕ) where
             let over : ones (bitAnd (glyph-word words (weights-of face) c l) v) ≡ column-over-black face image x t s c l =
             ap (λ w. ones (bitAnd w v)) (word-is l h) ∙ matched (column-word face (first + c) l) (height face) s (rows face) (image (x + c)) (below l h) (omega arith) in
             λ i. weight-is l h i *ℤ pos (over i))
+
+    -- how many pixels a level has
+    pub pixels-are : (ws : List ℕ) (vs : List ℤ) (width : ℕ) → Boxed face t ws vs width → (l : ℕ) → l < levels face → sum width (λ c. glyph-ink ws vs c l) ≡ pixels face t l
+    pixels-are ws vs width b l h =
+        (λ i. sum (b .width-is i) (λ c. glyph-ink (b .words-are i) (b .weights-are i) c l))
+        ∙ sum-same (box-width face t) (λ c. glyph-ink words (weights-of face) c l) (λ c. ink face (first + c) l) (λ c k. ink-is c k l h)
+
+    -- what a column can earn
+    pub values-are : (ws : List ℕ) (vs : List ℤ) (width height : ℕ) → Boxed face t ws vs width → height ≡ rows face → (c : ℕ) → c < width → (black : ℕ) → ink-value ws vs height c black ≡ value-of face (first + c) black
+    values-are ws vs width height b e c h black =
+        (λ i. ink-value (b .words-are i) (b .weights-are i) (e i) c black) ∙ value-is c (subst (λ n. c < n) (b .width-is) h) black

@@ -1,4 +1,5 @@
 -- What is gathered of a face and of an image before any question. Assumes nothing.
+use mathlib.Core.Path.{_≡_}
 use mathlib.Core.List.{List, map}
 use Prim.Native.Nat.{ℕ, _+_, _*_}
 use lib.IntN.{ℤ}
@@ -16,6 +17,12 @@ weights-of face = map (gamma face) (counting 0 (levels face))
 -- the columns of template t, as they lie in the face's own bytes
 abbrev pub box-words : List ℕ → ℕ → List ℕ
 box-words face t = between (column-start face (columns-before face t)) (column-start face (columns-before face t + box-width face t)) face
+
+-- the words and weights of the box of template t, with its width
+pub record Boxed (face : List ℕ) (t : ℕ) (words : List ℕ) (weights : List ℤ) (width : ℕ) : Type 0 where
+  pub words-are : words ≡ box-words face t
+  pub weights-are : weights ≡ weights-of face
+  pub width-is : width ≡ box-width face t
 
 -- the columns of an image, each as a word, and how many of its pixels are black
 abbrev pub image-words : Image → ℕ → ℕ → List ℕ

@@ -17,16 +17,16 @@ use bytes::u32_at;
 
 // The words of a box, one for each level of a column, and what a pixel of each level earns over black.
 #[derive(Clone, Copy)]
-pub(crate) struct Glyph<'a> {
-    pub(crate) words: &'a [u8],
-    pub(crate) weights: &'a [i16],
+pub(crate) struct Glyph<'f, 'w> {
+    pub(crate) words: &'f [u8],
+    pub(crate) weights: &'w [i16],
     pub(crate) width: usize,
     ghost few: { leb (length (held weights)) 4 ≡ true },
     ghost narrow: { leb width 32 ≡ true },
     ghost light: { (l : ℕ) → light (weight (held weights) l) ≡ true },
 }
 
-impl<'a> Glyph<'a> {
+impl<'f, 'w> Glyph<'f, 'w> {
     // The word of a level in a column.
     fn word(&self, c: usize, l: usize) -> u64
         requires { ⌜ c < 32 ⌝ ∗ ⌜ l < 4 ⌝ }

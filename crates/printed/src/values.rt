@@ -16,9 +16,9 @@ pub(crate) struct Level {
 
 // What `k` pixels earn over black.
 pub(crate) fn earned(weight: i16, k: usize) -> i64
-    requires { ⌜ k ≤ 64 ⌝ }
+    requires { ⌜ k ≤ 2048 ⌝ }
     ensures value { λ r. ⌜ r ≡ weight *ℤ pos k ⌝ }
-    ensures range { λ r. ⌜ Within (2 ^ 21) r ⌝ }
+    ensures range { λ r. ⌜ Within (32768 * k) r ⌝ }
 {
     i64::from(weight) * (k as i64)
 }
