@@ -111,17 +111,18 @@ module _ (γ : ℕ → ℤ) (n : ℕ → ℕ) (free : ℕ) where
   column-value-is (suc l) black h = one-more l black (omega arith) (λ s p. column-value-is l s p)
 
   -- how large a value can be, whatever the counts
-  module _ (b most : ℕ) (weights : (l : ℕ) → Within b (γ l)) where
-    pub column-value-within : (l black : ℕ) → black ≤ most → Within (l * (b * most)) (column-value γ n free l black)
+  module _ (b most : ℕ) where
+    pub column-value-within : (l black : ℕ) → ((i : ℕ) → i < l → Within b (γ i)) → black ≤ most → Within (l * (b * most)) (column-value γ n free l black)
     unfolding column-value
-    column-value-within zero black h = (omega (arith, ints), omega (arith, ints))
-    column-value-within (suc l) black h =
+    column-value-within zero black weights h = (omega (arith, ints), omega (arith, ints))
+    column-value-within (suc l) black weights h =
         let room : ℕ = free + sum l n in
         let best = greatest-is (λ k. γ l *ℤ pos k +ℤ column-value γ n free l (black - k)) (fewest room black) (spread (n l) room black) in
         let k : ℕ = fewest room black + best .at in
         let few : k ≤ black = omega (arith, best .within) in
-        let here = times-within (γ l) b k (weights l .0) (weights l .1) in
-        let rest = column-value-within l (black - k) (omega arith) in
+        let weight = weights l (omega arith) in
+        let here = times-within (γ l) b k (weight .0) (weight .1) in
+        let rest = column-value-within l (black - k) (λ i p. weights i (omega arith)) (omega arith) in
         let size : b * k ≤ b * most = mul-le b k b most (omega arith) (omega arith) in
         let all : suc l * (b * most) ≡ l * (b * most) + b * most = omega arith in
         subst (Within (suc l * (b * most))) (best .reached) (omega (arith, ints, here .0, rest .0), omega (arith, ints, here .1, rest .1))

@@ -17,7 +17,7 @@ use Rattle.scorer.specs.Meaning.{Meaning, Lawful, Node, Score-within, Scores-la
 use Rattle.matching.specs.Counts.{sum, sum-signed, count-of, one-if, greatest, lowest}
 use Rattle.matching.specs.Column.{gain, Choice, column-value, Is-column-value}
 use Rattle.matching.specs.Printed.{Image, has-bit, pixel, rows, column-pixels, pixels, base, free-rows, value-of, column-over-black, over-black, score-at, exact-score, shift-of, black-count, bound-score, printed-meaning}
-use Rattle.matching.proofs.Sums.{sum-same, sum-signed-same, sum-signed-le, sum-le, sum-swap, sum-signed-swap, times-sum, greatest-is, lowest-is}
+use Rattle.matching.proofs.Sums.{sum-same, sum-signed-same, sum-signed-le, sum-le, sum-swap, sum-signed-swap, times-sum, greatest-is, lowest-is, greatest-at-lowest}
 use Rattle.matching.proofs.Column.{column-value-is}
 use Rattle.matching.proofs.Ranges.{Within, within-add, within-more, gain-within, sum-within, sum-most}
 use Rattle.matching.proofs.Rows.{Apart, pixels-few, over-black-choice, count-le}
@@ -150,7 +150,11 @@ printed-lawful face image width laid some few = record {
 }
 
 pub shift-within : (face : List ℕ) (image : Image) (x t : ℕ) → Shift-within (shift-of face image x t)
-unfolding shift-of
 shift-within face image x t =
     let low = lowest-is (score-at face image x t) 4 .within in
     (omega (arith, ints, low), omega (arith, ints, low))
+
+-- the exact score is that of the lowest row that reaches it
+pub exact-at-lowest : (face : List ℕ) (image : Image) (x t : ℕ) → exact-score face image x t ≡ score-at face image x t (lowest (score-at face image x t) 4)
+unfolding exact-score
+exact-at-lowest face image x t = greatest-at-lowest (score-at face image x t) 4

@@ -207,3 +207,20 @@ greatest-step f a n = rw add-one refl
 
 pub sum-signed-onto : (a : ℤ) (n : ℕ) (f : ℕ → ℤ) → a +ℤ sum-signed n f +ℤ f n ≡ a +ℤ sum-signed (n + 1) f
 sum-signed-onto a n f = omega (arith, ints, sum-signed-more n f)
+
+-- one more value takes the lowest place, or leaves it
+pub lowest-takes : (f : ℕ → ℤ) (n : ℕ) → f (lowest f n) <ℤ f (n + 1) → lowest f (n + 1) ≡ n + 1
+unfolding lowest
+lowest-takes f n h =
+    let e : n + 1 ≡ suc n = omega arith in
+    let less : f (lowest f n) <ℤ f (suc n) = subst (λ k. f (lowest f n) <ℤ f k) e h in
+    let here : cond (ltZ (f (lowest f n)) (f (suc n))) (suc n) (lowest f n) ≡ suc n = grind (arith, ints) in
+    ap (lowest f) e ∙ here ∙ sym e
+
+pub lowest-keeps : (f : ℕ → ℤ) (n : ℕ) → f (n + 1) ≤ℤ f (lowest f n) → lowest f (n + 1) ≡ lowest f n
+unfolding lowest
+lowest-keeps f n h =
+    let e : n + 1 ≡ suc n = omega arith in
+    let less : f (suc n) ≤ℤ f (lowest f n) = subst (λ k. f k ≤ℤ f (lowest f n)) e h in
+    let here : cond (ltZ (f (lowest f n)) (f (suc n))) (suc n) (lowest f n) ≡ lowest f n = grind (arith, ints) in
+    ap (lowest f) e ∙ here

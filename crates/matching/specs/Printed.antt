@@ -67,7 +67,7 @@ module _ (face : List ℕ) where
     exact-score x t = greatest (score-at x t) 0 4
 
     -- the shift is how far below the middle the highest such box lies that reaches the exact score
-    unfoldable pub shift-of : ℕ → ℕ → ℤ
+    abbrev pub shift-of : ℕ → ℕ → ℤ
     shift-of x t = pos (lowest (score-at x t) 4) +ℤ negℤ (pos 2)
 
     -- how many pixels of an image column are black

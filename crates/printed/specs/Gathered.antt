@@ -9,7 +9,7 @@ use Rattle.photo.specs.Pixels.{black-at}
 use Rattle.photo.specs.Verdict.{header-of}
 use Rattle.photo.specs.declared.Photograph.{Photograph}
 use Rattle.printed.specs.Tables.{image-words, image-blacks}
-use Rattle.printed.specs.declared.gather.Columns.{Columns}
+use Rattle.printed.specs.declared.image.Columns.{Columns}
 
 abbrev pub image-of : Photograph → Image
 image-of photo = black-at (now (photo .bytes)) (photo .rows)

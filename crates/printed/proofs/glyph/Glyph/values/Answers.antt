@@ -35,7 +35,7 @@ lay-table-requires c κs k h =
     let few : length weights ≤ 4 = leb-true (length weights) 4 (glyph .few) in
     let light : (i : ℕ) → Within 1000 (weight weights i) = λ i. decides-signed (negℤ (pos 1000)) (pos 1000) (weight weights i) .0 (glyph .light i) in
     subst (Within (2 ^ 40)) (sym (c .loop-l .inv .2 k h))
-    (within-more (l * (1000 * 36)) (2 ^ 40) _ (omega arith) (column-value-within (weight weights) counts free 1000 36 light l k (omega arith)))
+    (within-more (l * (1000 * 36)) (2 ^ 40) _ (omega arith) (column-value-within (weight weights) counts free 1000 36 l k (λ i _. light i) (omega arith)))
 
 pub loop-l-again : need.loop-l-again
 loop-l-again c =

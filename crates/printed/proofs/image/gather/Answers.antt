@@ -6,7 +6,7 @@ use Rattle.matching.specs.Words.{word-of}
 use Rattle.matching.proofs.Words.{word-ones}
 use Rattle.printed.specs.Gathered.{image-of}
 use Rattle.printed.proofs.Pushing.{pushed}
-use Rattle.printed.proofs.gather.gather.Needs as need
+use Rattle.printed.proofs.image.gather.Needs as need
 
 pub loop-x-again : need.loop-x-again
 loop-x-again c =

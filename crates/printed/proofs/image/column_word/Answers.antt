@@ -6,7 +6,7 @@ use Rattle.matching.specs.Counts.{one-if}
 use Rattle.matching.specs.Words.{word-of}
 use Rattle.matching.proofs.Words.{word-below, word-more}
 use Rattle.photo.specs.Pixels.{black-at}
-use Rattle.printed.proofs.gather.column_word.Needs as need
+use Rattle.printed.proofs.image.column_word.Needs as need
 
 pub loop-y-holds : need.loop-y-holds
 unfolding word-of
