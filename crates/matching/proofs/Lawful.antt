@@ -16,7 +16,7 @@ use Rattle.face.proofs.Columns.{column-there}
 use Rattle.scorer.specs.Meaning.{Meaning, Lawful, Node, Score-within, Scores-lawful, Shift-within, is-template}
 use Rattle.matching.specs.Counts.{sum, sum-signed, count-of, one-if, greatest, lowest}
 use Rattle.matching.specs.Column.{gain, Choice, column-value, Is-column-value}
-use Rattle.matching.specs.Printed.{Image, has-bit, pixel, rows, column-pixels, pixels, base, free-rows, value-of, column-over-black, over-black, score-at, exact-score, shift-of, black-count, bound-score, printed-meaning}
+use Rattle.matching.specs.Printed.{Image, has-bit, pixel, rows, ink, column-pixels, pixels, base, free-rows, value-of, column-over-black, over-black, score-at, exact-score, shift-of, black-count, bound-score, printed-meaning}
 use Rattle.matching.proofs.Sums.{sum-same, sum-signed-same, sum-signed-le, sum-le, sum-swap, sum-signed-swap, times-sum, greatest-is, lowest-is, greatest-at-lowest}
 use Rattle.matching.proofs.Column.{column-value-is}
 use Rattle.matching.proofs.Ranges.{Within, within-add, within-more, gain-within, sum-within, sum-most}
@@ -70,6 +70,12 @@ module _ (face : List ℕ) (laid : Face-laid face) (t : ℕ) (there : t < count 
       within-more (10000 + 1000 * sum (levels face) (pixels face t)) 1034000 _ (omega (arith, pixels-in-all))
       (within-add 10000 _ (prior face t) _ prior-within (gain-within (beta face) 1000 (levels face) (pixels face t) betas))
 
+  -- the value of a box column is the greatest that a choice earns, for every number of black pixels
+  pub column-value-of : (c black : ℕ) → c < box-width face t → black ≤ rows face → Is-column-value (gamma face) (ink face (columns-before face t + c)) (levels face) (free-rows face (columns-before face t + c)) black (value-of face (columns-before face t + c) black)
+  unfolding value-of
+  column-value-of c black h few =
+      column-value-is (gamma face) (ink face (columns-before face t + c)) (free-rows face (columns-before face t + c)) (levels face) black (omega (arith, column-few c h))
+
   module _ (image : Image) (x : ℕ) where
     -- what lies over black in a box column is a choice
     column-choice : (s c : ℕ) → s ≤ 4 → c < box-width face t → Choice (column-pixels face t c) (levels face) (free-rows face (columns-before face t + c)) (black-count face image (x + c)) (column-over-black face image x t s c)
@@ -79,11 +85,8 @@ module _ (face : List ℕ) (laid : Face-laid face) (t : ℕ) (there : t < count 
     value c = value-of face (columns-before face t + c) (black-count face image (x + c))
 
     -- the column's value is the greatest that a choice earns
-    pub value-is : (c : ℕ) → c < box-width face t → Is-column-value (gamma face) (column-pixels face t c) (levels face) (free-rows face (columns-before face t + c)) (black-count face image (x + c)) (value c)
-    unfolding value-of
-    value-is c h =
-        column-value-is (gamma face) (column-pixels face t c) (free-rows face (columns-before face t + c)) (levels face) (black-count face image (x + c))
-        (omega (arith, count-le (height face + 4) (image (x + c)), column-few c h))
+    value-is : (c : ℕ) → c < box-width face t → Is-column-value (gamma face) (column-pixels face t c) (levels face) (free-rows face (columns-before face t + c)) (black-count face image (x + c)) (value c)
+    value-is c h = column-value-of c (black-count face image (x + c)) h (count-le (height face + 4) (image (x + c)))
 
     score-not-above : (s : ℕ) → s ≤ 4 → score-at face image x t s ≤ℤ bound-score face image x t
     unfolding bound-score

@@ -23,14 +23,14 @@ pub row-added : (face : List ℕ) (n : ℕ) (xs row ys : List ℤ) → Values-to
 row-added face n xs row ys before size values e = subst (Values-to face (n + 1)) (sym e) (record {
   many = omega (arith, length-append xs row, before .many);
   each = λ j h. ⊎-elim
-    (λ lt. getD-append-left xs row (pos 0) j (omega (arith, before .many)) ∙ before .each j lt)
-    (λ le.
-    let k : ℕ = j - 37 * n in
-    let at : j ≡ length xs + k = omega (arith, before .many) in
-    let q : n ≡ j / 37 = omega arith in
-    let r : k ≡ j % 37 = omega arith in
-    ap (λ i. getD (xs ++ row) i (pos 0)) at ∙ getD-append-add xs row k (pos 0) ∙ values k (omega arith) ∙ (λ i. value-of face (q i) (r i)))
-    (cases-lt j (37 * n));
+      (λ lt. getD-append-left xs row (pos 0) j (omega (arith, before .many)) ∙ before .each j lt)
+      (λ le.
+      let k : ℕ = j - 37 * n in
+      let at : j ≡ length xs + k = omega (arith, before .many) in
+      let q : n ≡ j / 37 = omega arith in
+      let r : k ≡ j % 37 = omega arith in
+      ap (λ i. getD (xs ++ row) i (pos 0)) at ∙ getD-append-add xs row k (pos 0) ∙ values k (omega arith) ∙ (λ i. value-of face (q i) (r i)))
+      (cases-lt j (37 * n));
 })
 
 pub values-like : {xs : List ℤ} (face : List ℕ) (m n : ℕ) → m ≡ n → Values-to face m xs → Values-to face n xs

@@ -6,3 +6,4 @@ pub mod Tabulated
 pub mod Scored
 pub mod Bests
 pub mod Line
+pub mod Laws

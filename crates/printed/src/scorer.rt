@@ -16,6 +16,7 @@ ghost use Rattle.matching.specs.Printed.{rows, black-count, value-of, bound-sco
 ghost use Rattle.scorer.specs.Meaning.{is-node};
 ghost use Rattle.printed.specs.Bests.{best-to, best-of};
 ghost use Rattle.printed.specs.Gathered.{Gathered, image-of, width-of};
+ghost use Rattle.printed.specs.Laws.{Printed-scores};
 ghost use Rattle.printed.specs.Line.{line-lawful};
 ghost use Rattle.printed.specs.Scored.{line-meaning, Valued, Stands};
 ghost use Rattle.printed.specs.Tables.{weights-of, image-words, image-blacks};
@@ -49,13 +50,25 @@ pub struct Printed<'a> {
     ghost valued: { Valued (held (face .bytes)) (held values) },
 }
 
+// Does nothing: its contract is the laws that printed scores and bounds are what they are called.
+fn scores_law(face: &Face, photo: &Photograph)
+    ensures { λ _. ⌜ Printed-scores (held (now (face .entry) .bytes)) (image-of (now (photo .entry))) ⌝ }
+{}
+
 impl<'a> Printed<'a> {
     // The scorer of a face and a photograph, with the columns that `gather` and the tables that `tabulate` made of them.
-    pub fn new(face: Face<'a>, photo: Photograph<'a>, columns: &'a Columns, tables: &'a Tables) -> Printed<'a>
+    pub fn new(
+        face: Face<'a>,
+        photo: Photograph<'a>,
+        columns: &'a Columns,
+        tables: &'a Tables,
+    ) -> Printed<'a>
         requires { ⌜ Gathered (held (face .bytes)) photo (now columns) ⌝ ∗ ⌜ Tabulated (held (face .bytes)) (now tables) ⌝ }
         ensures face { λ r. ⌜ r .face ≡ face .entry ⌝ }
         ensures photo { λ r. ⌜ r .photo ≡ photo .entry ⌝ }
+        ensures scores { λ _. ⌜ Printed-scores (held (face .entry .bytes)) (image-of (photo .entry)) ⌝ }
     {
+        scores_law(&face, &photo);
         Printed {
             face,
             photo,
@@ -140,7 +153,15 @@ impl<'a> Printed<'a> {
         template.base + glyph.gain_at(self.words, x, s)
     }
     // The better of two rows: row `s` only where its score is above that of the best row so far.
-    fn better(&self, best: Best, glyph: &Glyph, template: Template, x: usize, t: usize, s: usize) -> Best
+    fn better(
+        &self,
+        best: Best,
+        glyph: &Glyph,
+        template: Template,
+        x: usize,
+        t: usize,
+        s: usize,
+    ) -> Best
         requires { ⌜ Stands (held (now self .face .bytes)) x t template (held (now glyph .words)) (held (now glyph .weights)) (now glyph .width) ⌝ ∗ ⌜ s < 4 ⌝ ∗ ⌜ best ≡ best-to (held (now self .face .bytes)) (image-of (now self .photo)) x t s ⌝ }
         ensures { λ r. ⌜ r ≡ best-to (held (now (self .entry) .face .bytes)) (image-of (now (self .entry) .photo)) x t (s + 1) ⌝ }
     {

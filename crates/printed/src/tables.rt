@@ -73,7 +73,12 @@ fn laid(face: &Face)
 {}
 
 // The box of a template, whose first column is `first`.
-pub(crate) fn glyph_of<'f, 'w>(face: &Face<'f>, weights: &'w [i16], t: usize, first: usize) -> Glyph<'f, 'w>
+pub(crate) fn glyph_of<'f, 'w>(
+    face: &Face<'f>,
+    weights: &'w [i16],
+    t: usize,
+    first: usize,
+) -> Glyph<'f, 'w>
     requires { ⌜ t < count (held (now face .bytes)) ⌝ ∗ ⌜ now weights ≡ weights-of (held (now face .bytes)) ⌝ ∗ ⌜ first ≡ columns-before (held (now face .bytes)) t ⌝ }
     ensures { λ r. ⌜ Boxed (held (now (face .entry) .bytes)) t (held (r .words)) (held (r .weights)) (r .width) ⌝ }
 {

@@ -1,7 +1,9 @@
 // Every refusal of the decoder: what went wrong, with its number, its place and, for two of them, the template.
 ghost use mathlib.Core.Path.{_≡_};
+ghost use Rattle.refusal.specs.declared.Refusal.the-variants.{OutOfMemory};
 ghost use Rattle.refusal.specs.First.{ensure as ensured};
 ghost use Rattle.refusal.specs.Told.{told};
+use std::alloc::AllocError;
 
 // Each case is named by what went wrong. A field is the refusal's place, unless it is called `template`.
 #[derive(Clone, Copy)]
@@ -137,4 +139,13 @@ pub fn ensure(holds: bool, otherwise: Refusal) -> Result<(), Refusal>
     ensures { λ r. ⌜ r ≡ ensured holds otherwise ⌝ }
 {
     if holds { Ok(()) } else { Err(otherwise) }
+}
+
+// Want of memory.
+pub impl From<AllocError> for Refusal as WantOfMemory {
+    ghost converts = { λ _ r. r ≡ OutOfMemory };
+
+    fn from(_: AllocError) -> Refusal {
+        Refusal::OutOfMemory
+    }
 }

@@ -14,8 +14,7 @@ loop-x-again c =
     let rows = c .height-rows .result + 4 in
     let x = c .loop-x .x in
     let inv = c .loop-x .inv in
-    let word : c .column-word-word .result ≡ word-of rows (image x) = c .column-word-word .ensures in
-    (
+    let word : c .column-word-word .result ≡ word-of rows (image x) = c .column-word-word .ensures in (
       pushed (λ k. word-of rows (image k)) x _ _ _ (c .in-Continue-push .ensures tt .items) (inv .0) word,
       pushed (λ k. count-of rows (image k)) x _ _ _ (c .in-Continue-push-2 .ensures tt .items) (inv .1) (c .ones-in .ensures .value ∙ ap ones word ∙ word-ones rows (image x)),
     )

@@ -33,11 +33,12 @@ ghost-result c =
     let face = c .args .face .now .bytes .now in
     let ws = c .args .weights .now in
     let same : ws ≡ weights-of face = c .pre .1 .0 in
-    let few : length ws ≤ 4 = omega (arith, ap length same, weights-length face, c .laid .ensures .levelled .1) in
-    (
+    let few : length ws ≤ 4 = omega (arith, ap length same, weights-length face, c .laid .ensures .levelled .1) in (
       le-leb (length ws) 4 few,
-      (le-leb (c .width-of-width .result) 32 (c .width-of-width .ensures .bound),
-      (λ l. ap (λ q. light (weight q l)) same ∙ weights-light face (c .laid .ensures) l, tt)),
+      (
+        le-leb (c .width-of-width .result) 32 (c .width-of-width .ensures .bound),
+        (λ l. ap (λ q. light (weight q l)) same ∙ weights-light face (c .laid .ensures) l, tt),
+      ),
     )
 
 pub returns : need.returns
@@ -48,21 +49,21 @@ returns c =
     let from : c .args .first ≡ first = c .pre .1 .1 in
     let to : c .args .first + c .width-of-width .result ≡ first + box-width face t = λ i. from i + c .width-of-width .ensures .value i in
     let there : columns-there face first (first + box-width face t) ≡ true =
-        and-from (leb first (first + box-width face t)) (leb (column-start face (first + box-width face t)) (length face)) (le-leb first (first + box-width face t) (omega arith)) (le-leb (column-start face (first + box-width face t)) (length face) (box-inside face (c .laid .ensures) t (c .pre .0))) in
+    and-from (leb first (first + box-width face t)) (leb (column-start face (first + box-width face t)) (length face)) (le-leb first (first + box-width face t) (omega arith)) (le-leb (column-start face (first + box-width face t)) (length face) (box-inside face (c .laid .ensures) t (c .pre .0))) in
     let answer : mapped now (c .columns-between .result) ≡ Some (box-words face t) =
-        c .columns-between .ensures
-        ∙ (λ i. present (columns-there face (from i) (to i)) (between (column-start face (from i)) (column-start face (to i)) face))
-        ∙ ap (λ b. present b (box-words face t)) there in
+    c .columns-between .ensures
+    ∙ (λ i. present (columns-there face (from i) (to i)) (between (column-start face (from i)) (column-start face (to i)) face))
+    ∙ ap (λ b. present b (box-words face t)) there in
     record {
       words-are = elim (c .match-columns-between .came) [
-        in-Some w ↦
-        let e : _≡_ {A = Option (List ℕ)} (Some (now (w .in-Some .words))) (Some (box-words face t)) = sym (ap (mapped now) (w .in-Some .is)) ∙ answer in
-        let same : now (w .in-Some .words) ≡ box-words face t = cc in
-        ap now (w .words-is) ∙ same
-      | in-None w ↦
-        let e : _≡_ {A = Option (List ℕ)} None (Some (box-words face t)) = sym (ap (mapped now) (w .in-None .is)) ∙ answer in
-        let z : _≡_ {A = ℕ} 0 1 = cc in
-        absurd (omega arith)
+        | in-Some w ↦
+            let e : _≡_ {A = Option (List ℕ)} (Some (now (w .in-Some .words))) (Some (box-words face t)) = sym (ap (mapped now) (w .in-Some .is)) ∙ answer in
+            let same : now (w .in-Some .words) ≡ box-words face t = cc in
+            ap now (w .words-is) ∙ same
+        | in-None w ↦
+            let e : _≡_ {A = Option (List ℕ)} None (Some (box-words face t)) = sym (ap (mapped now) (w .in-None .is)) ∙ answer in
+            let z : _≡_ {A = ℕ} 0 1 = cc in
+            absurd (omega arith)
       ];
       weights-are = c .pre .1 .0;
       width-is = c .width-of-width .ensures .value;

@@ -21,8 +21,7 @@ add-first c =
 pub loop-t-again : need.loop-t-again
 loop-t-again c =
     let face = c .args .face .now .bytes .now in
-    let t = c .loop-t .t in
-    (
+    let t = c .loop-t .t in (
       pushed (template-of face) t _ _ _ (c .in-Continue-push .ensures tt .items) (c .loop-t .inv .0) (c .template-at-template .ensures),
       omega (arith, c .loop-t .inv .1, ap (λ r. r .width) (c .template-at-template .ensures), columns-more face t),
     )

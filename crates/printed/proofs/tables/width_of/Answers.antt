@@ -11,5 +11,5 @@ returns c =
     let face = c .args .face .now .bytes .now in
     let t = c .args .t in
     let value : c .from .result ≡ box-width face t =
-        c .from .ensures ∙ c .unwrap-or .ensures ∙ ap (λ o. valueOr o 0) (c .box-width .ensures) ∙ value-there (box-width face t) 0 (lt-ltb t (count face) (c .pre)) in
+    c .from .ensures ∙ c .unwrap-or .ensures ∙ ap (λ o. valueOr o 0) (c .box-width .ensures) ∙ value-there (box-width face t) 0 (lt-ltb t (count face) (c .pre)) in
     record { value = value; bound = omega (arith, c .laid .ensures .templates-laid t (c .pre) .boxed) }
