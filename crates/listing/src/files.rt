@@ -67,5 +67,5 @@ pub fn list_files(rt: &LibcRuntime, face_path: &str, photo_path: &str) -> Result
         PHOTOGRAPH_LIMIT,
         Refusal::PhotographUnreadable,
     )?;
-    read_line(&face, &photo)
+    read_line(rt.alloc(), &face, &photo)
 }

@@ -34,14 +34,14 @@ use scorer::Scorer;
 
 // A face laid over a photograph, with what was gathered of both.
 #[derive(Clone, Copy)]
-pub struct Printed<'a> {
-    face: Face<'a>,
-    photo: Photograph<'a>,
-    words: &'a [u64],
-    blacks: &'a [usize],
-    weights: &'a [i16],
-    templates: &'a [Template],
-    values: &'a [i64],
+pub struct Printed<'f, 'p, 'c, 't> {
+    face: Face<'f>,
+    photo: Photograph<'p>,
+    words: &'c [u64],
+    blacks: &'c [usize],
+    weights: &'t [i16],
+    templates: &'t [Template],
+    values: &'t [i64],
     ghost gathered: { held words ≡ image-words (image-of photo) (rows (held (face .bytes))) (width-of photo) },
     ghost counted: { held blacks ≡ image-blacks (image-of photo) (rows (held (face .bytes))) (width-of photo) },
     ghost weighed: { held weights ≡ weights-of (held (face .bytes)) },
@@ -55,14 +55,14 @@ fn scores_law(face: &Face, photo: &Photograph)
     ensures { λ _. ⌜ Printed-scores (held (now (face .entry) .bytes)) (image-of (now (photo .entry))) ⌝ }
 {}
 
-impl<'a> Printed<'a> {
+impl<'f, 'p, 'c, 't> Printed<'f, 'p, 'c, 't> {
     // The scorer of a face and a photograph, with the columns that `gather` and the tables that `tabulate` made of them.
     pub fn new(
-        face: Face<'a>,
-        photo: Photograph<'a>,
-        columns: &'a Columns,
-        tables: &'a Tables,
-    ) -> Printed<'a>
+        face: Face<'f>,
+        photo: Photograph<'p>,
+        columns: &'c Columns,
+        tables: &'t Tables,
+    ) -> Printed<'f, 'p, 'c, 't>
         requires { ⌜ Gathered (held (face .bytes)) photo (now columns) ⌝ ∗ ⌜ Tabulated (held (face .bytes)) (now tables) ⌝ }
         ensures face { λ r. ⌜ r .face ≡ face .entry ⌝ }
         ensures photo { λ r. ⌜ r .photo ≡ photo .entry ⌝ }
@@ -201,7 +201,7 @@ impl<'a> Printed<'a> {
     }
 }
 
-pub impl<'a> Scorer for Printed<'a> as PrintedScorer {
+pub impl<'f, 'p, 'c, 't> Scorer for Printed<'f, 'p, 'c, 't> as PrintedScorer {
     ghost meaning = { λ s. line-meaning (held (s .face .bytes)) (s .photo) };
 
     ghost lawful = { λ s. line-lawful (held (s .face .bytes)) (s .photo) (s .face .lawful) };
@@ -230,7 +230,7 @@ pub impl<'a> Scorer for Printed<'a> as PrintedScorer {
     }
 }
 
-pub impl<'a> PlacedScorer for Printed<'a> as PrintedPlacedScorer {
+pub impl<'f, 'p, 'c, 't> PlacedScorer for Printed<'f, 'p, 'c, 't> as PrintedPlacedScorer {
     ghost shifts = { λ s. shift-of (held (s .face .bytes)) (image-of (s .photo)) };
 
     ghost within = { λ s x t. shift-within (held (s .face .bytes)) (image-of (s .photo)) x t };
