@@ -17,6 +17,11 @@ image-of photo = black-at (now (photo .bytes)) (photo .rows)
 abbrev pub width-of : Photograph → ℕ
 width-of photo = header-of (now (photo .bytes)) (photo .rows) .width
 
-pub record Gathered (face : List ℕ) (photo : Photograph) (columns : Columns) : Type 0 where
-  pub words : vec-items (columns .words) ≡ image-words (image-of photo) (rows face) (width-of photo)
-  pub blacks : vec-items (columns .blacks) ≡ image-blacks (image-of photo) (rows face) (width-of photo)
+-- each of the first rows of each column
+pub record Gathered-rows (rows : ℕ) (photo : Photograph) (columns : Columns) : Type 0 where
+  pub words : vec-items (columns .words) ≡ image-words (image-of photo) rows (width-of photo)
+  pub blacks : vec-items (columns .blacks) ≡ image-blacks (image-of photo) rows (width-of photo)
+
+-- as many rows as a face needs
+abbrev pub Gathered : List ℕ → Photograph → Columns → Type 0
+Gathered face photo columns = Gathered-rows (rows face) photo columns

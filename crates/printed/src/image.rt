@@ -7,7 +7,7 @@ ghost use Rattle.face.specs.Fields.{height};
 ghost use Rattle.matching.specs.Counts.{one-if};
 ghost use Rattle.matching.specs.Words.{word-of};
 ghost use Rattle.photo.specs.Pixels.{black-at};
-ghost use Rattle.printed.specs.Gathered.{Gathered};
+ghost use Rattle.printed.specs.Gathered.{Gathered, Gathered-rows};
 use super::glyph::ones_in;
 use face::Face;
 use photo::Photograph;
@@ -45,7 +45,14 @@ fn column_word(photo: &Photograph, x: usize, rows: usize) -> u64
 pub fn gather(heap: Global, face: &Face, photo: &Photograph) -> Result<Columns, AllocError>
     ensures { λ r. ⌜ made r (λ columns. Gathered (held (now (face .entry) .bytes)) (now (photo .entry)) columns) ⌝ }
 {
-    let rows = face.height() + 4;
+    gather_rows(heap, photo, face.height() + 4)
+}
+
+// The columns of the first rows of a photograph.
+fn gather_rows(heap: Global, photo: &Photograph, rows: usize) -> Result<Columns, AllocError>
+    requires { ⌜ rows ≤ 36 ⌝ }
+    ensures { λ r. ⌜ made r (λ columns. Gathered-rows rows (now (photo .entry)) columns) ⌝ }
+{
     let width = photo.width();
     let mut words = Vec::with_capacity(heap, width)?;
     let mut blacks = Vec::with_capacity(heap, width)?;

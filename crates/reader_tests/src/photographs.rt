@@ -124,9 +124,9 @@ fn pixels_and_padding() -> Result<(), Fail> {
 }
 
 #[test]
-fn face_before_photograph() -> Result<(), Fail> {
+fn face_before_photograph(rt: LibcRuntime) -> Result<(), Fail> {
     let face: [u8; 12] = [1, 0, 1, 1, 2, 0, 0xFF, 0xFF, 0x2E, 1, 0, 0];
-    let Err(refusal) = read_line(&face, b"") else {
+    let Err(refusal) = read_line(rt.alloc(), &face, b"") else {
         return Err(Fail::new("a face without its template is read"));
     };
     check_eq(

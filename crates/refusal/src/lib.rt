@@ -146,6 +146,6 @@ pub impl From<AllocError> for Refusal as WantOfMemory {
     ghost converts = { λ _ r. r ≡ OutOfMemory };
 
     fn from(_: AllocError) -> Refusal {
-        Refusal::OutOfMemory
+        Self::OutOfMemory
     }
 }
