@@ -45,7 +45,7 @@ bits-below n h = (
         omega (arith, t .2, pow-mono (f (t .0) (t .1)))
 
 -- bit i of a number `a & b`
-and-bit : (a b i : ℕ) → bitAnd a b / 2 ^ i % 2 ≡ bitAnd (a / 2 ^ i % 2) (b / 2 ^ i % 2)
+pub and-bit : (a b i : ℕ) → bitAnd a b / 2 ^ i % 2 ≡ bitAnd (a / 2 ^ i % 2) (b / 2 ^ i % 2)
 and-bit a b i = ap (λ q. q % 2) (and-shr a b i) ∙ and-mod (a / 2 ^ i) (b / 2 ^ i) 1
 
 -- two numbers have no bit in common exactly if `a & b` is 0

@@ -16,7 +16,7 @@ use Rattle.face.proofs.Columns.{column-there}
 use Rattle.scorer.specs.Meaning.{Meaning, Lawful, Node, Score-within, Scores-lawful, Shift-within, is-template}
 use Rattle.matching.specs.Counts.{sum, sum-signed, count-of, one-if, greatest, lowest}
 use Rattle.matching.specs.Column.{gain, Choice, column-value, Is-column-value}
-use Rattle.matching.specs.Printed.{Image, has-bit, pixel, rows, ink, column-pixels, pixels, base, free-rows, value-of, column-over-black, over-black, score-at, exact-score, shift-of, black-count, bound-score, printed-meaning}
+use Rattle.matching.specs.Printed.{Image, pixel, rows, ink, column-pixels, pixels, base, free-rows, value-of, column-over-black, over-black, score-at, exact-score, shift-of, black-count, bound-score, printed-meaning}
 use Rattle.matching.proofs.Sums.{sum-same, sum-signed-same, sum-signed-le, sum-le, sum-swap, sum-signed-swap, times-sum, greatest-is, lowest-is, greatest-at-lowest}
 use Rattle.matching.proofs.Column.{column-value-is}
 use Rattle.matching.proofs.Ranges.{Within, within-add, within-more, gain-within, sum-within, sum-most}

@@ -10,10 +10,11 @@ use lib.Bits.{bitAnd}
 use lib.Count.{ones, ones-step, ones-cat}
 use lib.Dec.{eqb}
 use lib.Pow.{high, low, field, mod-mod-pow}
-use Rattle.std.proofs.shelf.Bits.{pow-pos, pow-add, and-shr, and-mod, and-le-l, shr-shr, shr-below, mod-below}
+use Rattle.std.proofs.shelf.Bits.{and-le-l, shr-shr, shr-below, mod-below}
 use Rattle.std.proofs.shelf.Tests.{cases-lt}
 use Rattle.matching.specs.Counts.{sum, count-of, one-if}
-use Rattle.matching.specs.Printed.{has-bit}
+use Rattle.bytes.specs.Bits.{has-bit}
+use Rattle.bytes.proofs.Bits.{and-bit}
 use Rattle.matching.specs.Words.{word-of}
 use Rattle.matching.proofs.Sums.{sum-same, sum-split}
 
@@ -100,9 +101,9 @@ ones-counted (suc n) v h =
         ap (λ q. v / 2 ^ q) e ∙ sym (shr-shr v 1 i)
 
 -- bit i of `a & b`
-pub and-bit : (a b i : ℕ) → has-bit (bitAnd a b) i ≡ (has-bit a i && has-bit b i)
-and-bit a b i =
-    ap (λ q. eqb (q % 2) 1) (and-shr a b i) ∙ ap (λ q. eqb q 1) (and-mod (a / 2 ^ i) (b / 2 ^ i) 1)
+both-have : (a b i : ℕ) → has-bit (bitAnd a b) i ≡ (has-bit a i && has-bit b i)
+both-have a b i =
+    ap (λ q. eqb q 1) (and-bit a b i)
     ∙ both (a / 2 ^ i % 2) (b / 2 ^ i % 2) (mod-below (a / 2 ^ i) 2 (omega arith)) (mod-below (b / 2 ^ i) 2 (omega arith))
   where
     both : (x y : ℕ) → x < 2 → y < 2 → eqb (bitAnd x y) 1 ≡ (eqb x 1 && eqb y 1)
@@ -113,7 +114,7 @@ and-bit a b i =
     both (suc (suc x)) y h k = absurd (omega arith)
 
 -- bit i after a shift to the right
-pub shifted-bit : (v s i : ℕ) → has-bit (v / 2 ^ s) i ≡ has-bit v (i + s)
+shifted-bit : (v s i : ℕ) → has-bit (v / 2 ^ s) i ≡ has-bit v (i + s)
 shifted-bit v s i =
     let e : s + i ≡ i + s = omega arith in
     ap (λ q. eqb (q % 2) 1) (shr-shr v s i) ∙ ap (λ q. eqb (v / 2 ^ q % 2) 1) e
@@ -125,7 +126,7 @@ matched w height s rows b h k =
     let below : bitAnd w v < 2 ^ height = omega (arith, and-le-l w v) in
     ones-counted height (bitAnd w v) below
     ∙ sum-same height (λ i. one-if (has-bit (bitAnd w v) i)) (λ i. one-if (has-bit w i && b (i + s))) (λ i p.
-    ap one-if (and-bit w v i ∙ ap (λ q. has-bit w i && q) (shifted-bit (word-of rows b) s i ∙ word-bit rows b (i + s) (omega arith))))
+    ap one-if (both-have w v i ∙ ap (λ q. has-bit w i && q) (shifted-bit (word-of rows b) s i ∙ word-bit rows b (i + s) (omega arith))))
 
 -- one row more, as a loop adds it
 pub word-more : (n : ℕ) (p : ℕ → Bool) → word-of (n + 1) p ≡ one-if (p n) * 2 ^ n + word-of n p

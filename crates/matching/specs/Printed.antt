@@ -1,52 +1,50 @@
 -- The scores of a template printed on an image. Assumes nothing.
 use mathlib.Core.Bool.{Bool, _&&_}
 use mathlib.Core.List.{List}
-use Prim.Native.Nat.{ℕ, _+_, _-_, _/_, _%_, _^_}
-use lib.Dec.{eqb}
+use Prim.Native.Nat.{ℕ, _+_, _-_}
 use lib.IntN.{ℤ, pos, negℤ, _+ℤ_, _*ℤ_}
+use Rattle.bytes.specs.Bits.{has-bit}
 use Rattle.face.specs.Fields.{count, levels, height, gamma, beta, setwidth, box-width, prior, columns-before}
 use Rattle.face.specs.Laid.{column-word}
 use Rattle.scorer.specs.Meaning.{Meaning}
 use Rattle.matching.specs.Column.{column-value}
 use Rattle.matching.specs.Counts.{sum, sum-signed, count-of, greatest, lowest}
 
--- bit i of a word
-abbrev pub has-bit : ℕ → ℕ → Bool
-has-bit word i = eqb (word / 2 ^ i % 2) 1
-
 -- an image: whether column x of row y is black
 abbrev pub Image : Type 0
 Image = ℕ → ℕ → Bool
 
 module _ (face : List ℕ) where
-  -- the pixel of level l in row i of column c of a template's box
-  abbrev pub pixel : ℕ → ℕ → ℕ → ℕ → Bool
-  pixel t c l i = has-bit (column-word face (columns-before face t + c) l) i
+  -- whether level l has a pixel in row i of a column, where columns are counted over all templates; and how many it has there
+  abbrev pub column-pixel : ℕ → ℕ → ℕ → Bool
+  column-pixel column l i = has-bit (column-word face column l) i
 
-  -- the rows of an image: two more than the box above it, and two below
-  abbrev pub rows : ℕ
-  rows = height face + 4
-
-  -- how many pixels a level has: in one column, where columns are counted over all templates,
   abbrev pub ink : ℕ → ℕ → ℕ
-  ink column l = count-of (height face) (has-bit (column-word face column l))
+  ink column l = count-of (height face) (column-pixel column l)
 
-  -- in column c of a template's box, and in all of them
+  -- the same of column c of a template's box, and how many pixels it has in all columns of the box
+  abbrev pub pixel : ℕ → ℕ → ℕ → ℕ → Bool
+  pixel t c l i = column-pixel (columns-before face t + c) l i
+
   abbrev pub column-pixels : ℕ → ℕ → ℕ → ℕ
   column-pixels t c l = ink (columns-before face t + c) l
 
   abbrev pub pixels : ℕ → ℕ → ℕ
   pixels t l = sum (box-width face t) (λ c. column-pixels t c l)
 
+  -- the rows of an image: four more than a box has
+  abbrev pub rows : ℕ
+  rows = height face + 4
+
   -- what a template earns wherever it stands
   abbrev pub base : ℕ → ℤ
   base t = prior face t +ℤ sum-signed (levels face) (λ l. beta face l *ℤ pos (pixels t l))
 
-  -- what a column can earn at most over an image column with so many black pixels: of the image's rows, some have none
-  -- of the column's pixels on them
+  -- the rows of an image column on which no pixel of a box column lies
   abbrev pub free-rows : ℕ → ℕ
   free-rows column = rows - sum (levels face) (ink column)
 
+  -- what a box column can earn at most over an image column with so many black pixels
   unfoldable pub value-of : ℕ → ℕ → ℤ
   value-of column black = column-value (gamma face) (ink column) (free-rows column) (levels face) black
 

@@ -3,8 +3,9 @@ use mathlib.Core.Path.{_≡_}
 use mathlib.Core.Bool.{Bool, cond, _&&_}
 use mathlib.Core.List.{List}
 use Prim.Native.Nat.{ℕ, _+_, _-_, _*_, _/_, _%_, _^_, _<_}
-use lib.Dec.{eqb, ltb}
+use lib.Dec.{ltb}
 use lib.ListN.{length}
+use Rattle.bytes.specs.Bits.{has-bit}
 use Rattle.bytes.specs.Numbers.{byte-at}
 use Rattle.photo.specs.declared.scan.Header.{Header}
 use Rattle.photo.specs.Verdict.{stride, header-of}
@@ -16,7 +17,7 @@ raster-byte photo h y k = byte-at photo (h .raster + y * stride (h .width) + k)
 -- whether column x of row y is black; beyond the photograph nothing is
 abbrev pub black-in : List ℕ → ℕ → Header → ℕ → ℕ → Bool
 black-in photo rows h x y =
-    ltb x (h .width) && ltb y rows && eqb (raster-byte photo h y (x / 8) / 2 ^ (7 - x % 8) % 2) 1
+    ltb x (h .width) && ltb y rows && has-bit (raster-byte photo h y (x / 8)) (7 - x % 8)
 
 abbrev pub black-at : List ℕ → ℕ → ℕ → ℕ → Bool
 black-at photo rows x y = black-in photo rows (header-of photo rows) x y

@@ -15,6 +15,7 @@ use Rattle.std.proofs.shelf.Bits.{mul-le, mul-add-lt}
 use Rattle.std.proofs.shelf.Counted.{length-map-counting, getD-map-counting}
 use Rattle.std.proofs.shelf.Tests.{cases-lt, ltb-true, eqb-true, eq-eqb}
 use Rattle.std.specs.Iters.{counting}
+use Rattle.bytes.specs.Bits.{has-bit}
 use Rattle.bytes.specs.Numbers.{u32-at}
 use Rattle.bytes.proofs.Bits.{bits-below}
 use Rattle.bytes.proofs.Ranges.{decides-signed}
@@ -24,7 +25,7 @@ use Rattle.face.specs.Laid.{Face-laid, column-word}
 use Rattle.face.proofs.Columns.{column-there, columns-more, columns-mono, starts-mono}
 use Rattle.matching.specs.Column.{gain, column-value}
 use Rattle.matching.specs.Counts.{sum, sum-signed, count-of, one-if}
-use Rattle.matching.specs.Printed.{Image, has-bit, pixel, pixels, rows, ink, column-pixels, free-rows, value-of, column-over-black, score-at, base, black-count}
+use Rattle.matching.specs.Printed.{Image, pixel, pixels, rows, ink, column-pixels, free-rows, value-of, column-over-black, score-at, base, black-count}
 use Rattle.matching.specs.Words.{word-of}
 use Rattle.matching.proofs.Column.{column-value-same}
 use Rattle.matching.proofs.Lawful.{score-by-columns}
