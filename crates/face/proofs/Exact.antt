@@ -1,13 +1,10 @@
 -- The check of a face refuses nothing exactly if its layout holds. Assumes nothing.
-use mathlib.Core.Path.{_≡_, refl, sym, ap, subst, _∙_}
-use mathlib.Core.Bool.{Bool, true, false}
-use mathlib.Core.List.{List, [], _∷_}
-use mathlib.Core.Logic.{⊎-elim}
-use Prim.Native.Nat.{ℕ, _+_, _-_, _*_, _/_, _%_, _^_, _≤_, _<_}
+use mathlib.Core.Path.{_≡_, sym, ap, subst, _∙_}
+use mathlib.Core.Bool.{true}
+use mathlib.Core.List.{List}
+use Prim.Native.Nat.{ℕ, _+_, _-_, _*_, _/_, _%_, _≤_, _<_}
 use native.Mathlib.Nat.{mul-comm}
 use native.Mathlib.Omega.{arith}
-use lib.Bits.{bitAnd}
-use lib.Dec.{eqb, leb, ltb}
 use lib.ListN.{length}
 use Rattle.std.proofs.shelf.Bits.{div-add-mod', div-mul-add, mod-mul-add, mod-below, div-below, mul-add-lt}
 use Rattle.std.proofs.shelf.Ways.{decides-and, decides-eqb, decides-like}
@@ -17,12 +14,12 @@ use Rattle.bytes.specs.Bits.{Bit}
 use Rattle.bytes.specs.Numbers.{byte-at}
 use Rattle.bytes.proofs.Bits.{bits-below, bits-apart}
 use Rattle.bytes.proofs.Ranges.{decides-leb, decides-from-to, decides-signed}
-use Rattle.refusal.specs.First.{Exactly, ensure, first-refusal}
+use Rattle.refusal.specs.First.{Exactly}
 use Rattle.refusal.proofs.First.{decides-each, exactly-ensure, exactly-each, exactly-none, exactly-more, exactly-given, exactly-like, ok-from-isOk}
-use Rattle.refusal.specs.declared.Refusal.the-variants.{FaceSize, FaceHead, FaceTruncated, FaceLevel, FaceTemplate, FaceLength, FaceWord}
-use Rattle.face.specs.Fields.{count, levels, height, level-start, gamma, beta, template-start, name, setwidth, box-width, prior, word-start, word-at, columns-before}
-use Rattle.face.specs.Verdict.{Headed, sized, level-lawful, spare-lawful, template-lawful, words, apart, word-lawful, levels-verdict, templates-verdict, length-verdict, words-verdict, head-verdict, checks-verdict, face-verdict}
-use Rattle.face.specs.Laid.{Level-laid, Template-laid, column-word, Word-laid, Face-laid}
+use Rattle.refusal.specs.declared.Refusal.the-variants.{FaceSize, FaceHead, FaceTruncated}
+use Rattle.face.specs.Fields.{count, levels, height, gamma, beta, template-start, name, setwidth, box-width, prior, word-start, word-at, columns-before}
+use Rattle.face.specs.Verdict.{Headed, sized, level-lawful, spare-lawful, template-lawful, words, word-lawful, levels-verdict, templates-verdict, length-verdict, words-verdict, head-verdict, face-verdict}
+use Rattle.face.specs.Laid.{Level-laid, Template-laid, Word-laid, Face-laid}
 
 module _ (face : List ℕ) where
   decides-level : (l : ℕ) → Decides (level-lawful face l) (Level-laid face l)

@@ -8,7 +8,6 @@ use lib.IntN.{pos, negℤ}
 use lib.ListN.{length}
 use Rattle.bytes.specs.Numbers.{byte-at}
 use Rattle.bytes.specs.Ranges.{from-to, signed-from-to}
-use Rattle.refusal.specs.declared.Refusal.{Refusal}
 use Rattle.refusal.specs.declared.Refusal.the-variants.{FaceSize, FaceHead, FaceTruncated, FaceLevel, FaceTemplate, FaceLength, FaceWord}
 use Rattle.refusal.specs.First.{Verdict, each, ensure, ensure-each, first-refusal}
 use Rattle.face.specs.Fields.{count, levels, height, level-start, gamma, beta, template-start, name, setwidth, box-width, prior, word-start, word-at, columns-before}

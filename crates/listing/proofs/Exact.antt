@@ -10,9 +10,7 @@ use Rattle.face.specs.Fields.{count, height}
 use Rattle.face.specs.Verdict.{face-verdict}
 use Rattle.face.proofs.Exact as faces
 use Rattle.photo.specs.Verdict.{photo-verdict}
-use Rattle.photo.specs.declared.scan.Header.{Header}
 use Rattle.photo.proofs.Exact as photos
-use Rattle.refusal.specs.First.{after}
 use Rattle.refusal.specs.declared.Refusal.{Refusal}
 use Rattle.refusal.proofs.First.{after-elim, after-ok}
 use Rattle.listing.specs.Answer.{line-answer, Answers}

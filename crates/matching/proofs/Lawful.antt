@@ -1,23 +1,22 @@
 -- The line of a face and an image is lawful: exact scores are not above bounds, and all lie in their range. Assumes nothing.
-use mathlib.Core.Path.{_≡_, refl, sym, ap, subst, _∙_}
-use mathlib.Core.Bool.{Bool, true, false, cond, _&&_}
+use mathlib.Core.Path.{_≡_, ap, subst, _∙_}
+use mathlib.Core.Bool.{Bool, true, false, _&&_}
 use mathlib.Core.List.{List}
-use Prim.Native.Nat.{ℕ, zero, suc, _+_, _-_, _*_, _/_, _%_, _^_, _≤_, _<_}
+use Prim.Native.Nat.{ℕ, _+_, _*_, _≤_, _<_}
 use native.Mathlib.Omega.{arith}
-use lib.Dec.{eqb, leb, ltb}
-use lib.IntN.{ℤ, pos, negℤ, _+ℤ_, _*ℤ_}
+use lib.IntN.{ℤ, pos, _+ℤ_, _*ℤ_}
 use lib.Signed.{_≤ℤ_}
 use Rattle.std.proofs.shelf.Bits.{mul-le}
 use Rattle.std.proofs.shelf.Signed.{ints}
 use Rattle.std.proofs.shelf.Tests.{and-parts, ltb-true, eqb-true}
-use Rattle.face.specs.Fields.{count, levels, height, gamma, beta, setwidth, box-width, prior, columns-before}
-use Rattle.face.specs.Laid.{Face-laid, column-word}
+use Rattle.face.specs.Fields.{count, levels, height, gamma, beta, box-width, prior, columns-before}
+use Rattle.face.specs.Laid.{Face-laid}
 use Rattle.face.proofs.Columns.{column-there}
-use Rattle.scorer.specs.Meaning.{Meaning, Lawful, Node, Score-within, Scores-lawful, Shift-within, is-template}
-use Rattle.matching.specs.Counts.{sum, sum-signed, count-of, one-if, greatest, lowest}
-use Rattle.matching.specs.Column.{gain, Choice, column-value, Is-column-value}
+use Rattle.scorer.specs.Meaning.{Lawful, Scores-lawful, Shift-within, is-template}
+use Rattle.matching.specs.Counts.{sum, sum-signed, one-if, greatest, lowest}
+use Rattle.matching.specs.Column.{gain, Choice, Is-column-value}
 use Rattle.matching.specs.Printed.{Image, pixel, rows, ink, column-pixels, pixels, base, free-rows, value-of, column-over-black, over-black, score-at, exact-score, shift-of, black-count, bound-score, printed-meaning}
-use Rattle.matching.proofs.Sums.{sum-same, sum-signed-same, sum-signed-le, sum-le, sum-swap, sum-signed-swap, times-sum, greatest-is, lowest-is, greatest-at-lowest}
+use Rattle.matching.proofs.Sums.{sum-signed-same, sum-signed-le, sum-le, sum-swap, sum-signed-swap, times-sum, greatest-is, lowest-is, greatest-at-lowest}
 use Rattle.matching.proofs.Column.{column-value-is}
 use Rattle.matching.proofs.Ranges.{Within, within-add, within-more, gain-within, sum-within, sum-most}
 use Rattle.matching.proofs.Rows.{Apart, pixels-few, over-black-choice, count-le}

@@ -1,18 +1,16 @@
 -- Laws of sums, counts and greatest values. Assumes nothing.
 use mathlib.Core.Path.{_≡_, refl, sym, ap, subst, _∙_}
-use mathlib.Core.Bool.{Bool, true, false, cond, _&&_}
-use mathlib.Core.Logic.{⊎-elim, _⊎_}
-use Prim.Native.Nat.{ℕ, zero, suc, _+_, _-_, _*_, _≤_, _<_}
+use mathlib.Core.Bool.{cond}
+use mathlib.Core.Logic.{⊎-elim}
+use Prim.Native.Nat.{ℕ, zero, suc, _+_, _*_, _≤_, _<_}
 use native.Mathlib.Numerals.{add-one}
 use native.Mathlib.Omega.{arith}
-use lib.Dec.{leb, ltb, eqb}
-use lib.IntN.{ℤ, pos, negℤ, sucℤ, _+ℤ_, _*ℤ_, *ℤ-comm, *ℤ-zero, sucℤ-*ℤ}
+use lib.IntN.{ℤ, pos, negℤ, _+ℤ_, _*ℤ_, *ℤ-comm, *ℤ-zero, sucℤ-*ℤ}
 use lib.Signed.{ltZ, _≤ℤ_, _<ℤ_}
 use Rattle.std.proofs.shelf.Signed.{ints, by-ltZ}
 use Rattle.std.proofs.shelf.Tests.{cases-lt}
-use Rattle.std.proofs.shelf.Ways.{tells}
 use Rattle.std.specs.Numbers.{maxZ}
-use Rattle.matching.specs.Counts.{sum, sum-signed, count-of, one-if, greatest, lowest, Is-greatest, Is-lowest}
+use Rattle.matching.specs.Counts.{sum, sum-signed, greatest, lowest, Is-greatest, Is-lowest}
 
 -- sums of equal values are equal
 pub sum-same : (n : ℕ) (f g : ℕ → ℕ) → ((i : ℕ) → i < n → f i ≡ g i) → sum n f ≡ sum n g

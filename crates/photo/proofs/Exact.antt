@@ -1,11 +1,11 @@
 -- The check of a photograph tells a header exactly if its layout holds with that header. Assumes nothing.
 use mathlib.Core.Path.{_≡_, refl, sym, ap, subst, _∙_}
-use mathlib.Core.Bool.{Bool, true, false, _&&_}
+use mathlib.Core.Bool.{true, _&&_}
 use mathlib.Core.List.{List, [], _∷_, _++_}
 use Prim.Native.Nat.{ℕ, _+_, _-_, _*_, _≤_, _<_}
 use native.Mathlib.Omega.{arith}
-use lib.Dec.{eqb, ltb}
-use lib.ListN.{length, getD, take, drop}
+use lib.Dec.{eqb}
+use lib.ListN.{length, getD, drop}
 use Rattle.std.proofs.shelf.Lists.{append-assoc, length-append, length-drop, length-take, drop-more, getD-at}
 use Rattle.std.proofs.shelf.Tests.{and-parts, and-from, eqb-true, eq-eqb, false≢true}
 use Rattle.std.specs.shelf.Lists.{All, between}
@@ -15,7 +15,6 @@ use Rattle.std.specs.declared.result.Result.the-variants.{Ok, Err}
 use Rattle.bytes.specs.Numbers.{byte-at}
 use Rattle.bytes.specs.Ranges.{from-to}
 use Rattle.bytes.proofs.Ranges.{decides-from-to}
-use Rattle.refusal.specs.First.{ensure, after}
 use Rattle.refusal.specs.declared.Refusal.{Refusal}
 use Rattle.refusal.specs.declared.Refusal.the-variants.{PhotographKind, PhotographMeasure, PhotographRaster}
 use Rattle.refusal.proofs.First.{after-elim, after-ensure, after-ok, after-met}
@@ -23,11 +22,11 @@ use Rattle.photo.specs.declared.scan.Class.the-variants.{White, Digit}
 use Rattle.photo.specs.declared.scan.Header.{Header}
 use Rattle.photo.specs.declared.scan.Number.{Number}
 use Rattle.photo.specs.declared.scan.Scan.{Scan}
-use Rattle.photo.specs.Header.{white, digit, run-end, decimal, scan-white, scan-number, scan-one-white, scan-header}
+use Rattle.photo.specs.Header.{white, run-end, decimal, scan-white, scan-number, scan-one-white, scan-header}
 use Rattle.photo.specs.Laid.{Gap, Numeral, Photograph-laid, Tells-exactly}
 use Rattle.photo.specs.Verdict.{kind, stride, checks-verdict, photo-verdict, told-header, header-of}
 use Rattle.photo.proofs.Runs.{run-all}
-use Rattle.photo.proofs.Scans.{number-at, run-within, white-parts, white-is, number-parts, number-is, one-parts, one-is, run-splits, digit-not-white, white-not-digit, Ends, digits-end-white, white-ends-digits, run-there}
+use Rattle.photo.proofs.Scans.{number-at, run-within, white-parts, white-is, number-parts, number-is, one-parts, one-is, run-splits, white-not-digit, Ends, digits-end-white, white-ends-digits, run-there}
 
 front-two : (photo : List ℕ) → 2 ≤ length photo → byte-at photo 0 ≡ 80 → byte-at photo 1 ≡ 52 → photo ≡ 80 ∷ 52 ∷ drop 2 photo
 unfolding byte-at

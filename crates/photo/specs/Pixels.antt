@@ -1,10 +1,9 @@
 -- The pixels of a photograph: rows from the top, in each byte the highest bit leftmost. Assumes nothing.
 use mathlib.Core.Path.{_≡_}
-use mathlib.Core.Bool.{Bool, cond, _&&_}
+use mathlib.Core.Bool.{Bool, _&&_}
 use mathlib.Core.List.{List}
 use Prim.Native.Nat.{ℕ, _+_, _-_, _*_, _/_, _%_, _^_, _<_}
 use lib.Dec.{ltb}
-use lib.ListN.{length}
 use Rattle.bytes.specs.Bits.{has-bit}
 use Rattle.bytes.specs.Numbers.{byte-at}
 use Rattle.photo.specs.declared.scan.Header.{Header}

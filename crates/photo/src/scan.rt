@@ -1,7 +1,7 @@
 // The scan of a photograph's header, one part after the other.
-ghost use lib.ListN.{length, take, drop};
+ghost use lib.ListN.{length};
 ghost use mathlib.Core.Path.{_≡_};
-ghost use Prim.Native.Nat.{_+_, _≤_, _<_, _^_};
+ghost use Prim.Native.Nat.{_+_, _≤_, _<_};
 ghost use mathlib.Core.Bool.{true};
 ghost use Rattle.std.specs.shelf.Lists.{All};
 ghost use Rattle.std.specs.Vec.{made};

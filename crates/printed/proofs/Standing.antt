@@ -1,18 +1,15 @@
 -- A template where it stands: its columns in the face, and its score on a row. Assumes nothing.
-use mathlib.Core.Path.{_≡_, refl, sym, ap, subst, _∙_}
+use mathlib.Core.Path.{_≡_, sym, ap, subst, _∙_}
 use mathlib.Core.List.{List}
-use Prim.Native.Nat.{ℕ, _+_, _*_, _/_, _^_, _≤_, _<_}
+use Prim.Native.Nat.{ℕ, _+_, _/_, _^_, _≤_, _<_}
 use native.Mathlib.Omega.{arith}
-use lib.IntN.{ℤ, pos, _+ℤ_}
+use lib.IntN.{ℤ, _+ℤ_}
 use lib.ListN.{getD}
-use Rattle.std.proofs.shelf.Signed.{ints}
 use Rattle.face.specs.Fields.{count, levels, gamma, box-width, columns-before}
 use Rattle.face.specs.Laid.{Face-laid}
 use Rattle.face.proofs.Columns.{column-there, columns-few}
 use Rattle.matching.specs.Column.{gain}
-use Rattle.matching.specs.Counts.{sum-signed}
 use Rattle.matching.specs.Printed.{rows, base, column-over-black, score-at}
-use Rattle.matching.specs.Words.{word-of}
 use Rattle.matching.proofs.Lawful.{base-within, score-by-columns}
 use Rattle.matching.proofs.Ranges.{Within}
 use Rattle.matching.proofs.Sums.{sum-signed-same}

@@ -1,38 +1,34 @@
 -- What the words of a box say of its pixels. Assumes nothing.
-use mathlib.Core.Path.{_≡_, refl, sym, ap, subst, _∙_}
-use mathlib.Core.Bool.{Bool, true, false, cond, _&&_}
-use mathlib.Core.List.{List, map}
+use mathlib.Core.Path.{_≡_, ap, subst, _∙_}
+use mathlib.Core.Bool.{true}
+use mathlib.Core.List.{List}
 use mathlib.Core.Logic.{⊎-elim}
-use Prim.Native.Nat.{ℕ, _+_, _-_, _*_, _/_, _%_, _^_, _≤_, _<_}
+use Prim.Native.Nat.{ℕ, _+_, _-_, _*_, _/_, _^_, _≤_, _<_}
 use native.Mathlib.Nat.{mul-add}
 use native.Mathlib.Omega.{arith}
 use lib.Bits.{bitAnd}
 use lib.Count.{ones}
-use lib.Dec.{leb, ltb, eqb}
-use lib.IntN.{ℤ, pos, negℤ, _+ℤ_, _*ℤ_}
-use lib.ListN.{length, getD, List·getD-eq-default}
-use Rattle.std.proofs.shelf.Bits.{mul-le, mul-add-lt}
+use lib.IntN.{ℤ, pos, negℤ, _*ℤ_}
+use lib.ListN.{length, List·getD-eq-default}
+use Rattle.std.proofs.shelf.Bits.{mul-add-lt}
 use Rattle.std.proofs.shelf.Counted.{length-map-counting, getD-map-counting}
-use Rattle.std.proofs.shelf.Tests.{cases-lt, ltb-true, eqb-true, eq-eqb}
-use Rattle.std.specs.Iters.{counting}
-use Rattle.bytes.specs.Bits.{has-bit}
+use Rattle.std.proofs.shelf.Tests.{cases-lt, ltb-true}
 use Rattle.bytes.specs.Numbers.{u32-at}
 use Rattle.bytes.proofs.Bits.{bits-below}
 use Rattle.bytes.proofs.Ranges.{decides-signed}
 use Rattle.bytes.proofs.Stretches.{u32-between}
-use Rattle.face.specs.Fields.{count, levels, height, gamma, box-width, columns-before, column-start, word-start, word-at}
+use Rattle.face.specs.Fields.{count, levels, height, gamma, box-width, columns-before, column-start, word-start}
 use Rattle.face.specs.Laid.{Face-laid, column-word}
 use Rattle.face.proofs.Columns.{column-there, columns-more, columns-mono, starts-mono}
 use Rattle.matching.specs.Column.{gain, column-value}
-use Rattle.matching.specs.Counts.{sum, sum-signed, count-of, one-if}
-use Rattle.matching.specs.Printed.{Image, pixel, pixels, rows, ink, column-pixels, free-rows, value-of, column-over-black, score-at, base, black-count}
+use Rattle.matching.specs.Counts.{sum}
+use Rattle.matching.specs.Printed.{Image, pixels, rows, ink, value-of, column-over-black}
 use Rattle.matching.specs.Words.{word-of}
 use Rattle.matching.proofs.Column.{column-value-same}
-use Rattle.matching.proofs.Lawful.{score-by-columns}
 use Rattle.matching.proofs.Sums.{sum-same, sum-signed-same}
 use Rattle.matching.proofs.Words.{matched, ones-counted}
-use Rattle.printed.specs.Glyph.{weight, light, glyph-word, ink as glyph-ink, column-gain, gain-at, ink-value}
-use Rattle.printed.specs.Tables.{weights-of, box-words, Boxed, image-words, image-blacks}
+use Rattle.printed.specs.Glyph.{weight, light, glyph-word, ink as glyph-ink, column-gain, ink-value}
+use Rattle.printed.specs.Tables.{weights-of, box-words, Boxed}
 
 module _ (face : List ℕ) where
   pub weights-length : length (weights-of face) ≡ levels face

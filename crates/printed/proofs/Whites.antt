@@ -1,17 +1,15 @@
 -- The gathered columns of an image, and the white right of it. Assumes nothing.
 use mathlib.Core.Path.{_≡_, refl, sym, ap, _∙_}
-use mathlib.Core.Bool.{Bool, true, false, _&&_}
-use mathlib.Core.List.{List, map}
+use mathlib.Core.Bool.{Bool, false, _&&_}
+use mathlib.Core.List.{List}
 use mathlib.Core.Logic.{⊎-elim}
-use Prim.Native.Nat.{ℕ, zero, suc, _+_, _*_, _^_, _≤_, _<_}
+use Prim.Native.Nat.{ℕ, zero, suc, _+_, _*_, _^_, _≤_}
 use native.Mathlib.Omega.{arith}
 use lib.Dec.{ltb}
-use lib.ListN.{length, getD, List·getD-eq-default}
+use lib.ListN.{getD, List·getD-eq-default}
 use Rattle.std.proofs.shelf.Counted.{length-map-counting, getD-map-counting}
 use Rattle.std.proofs.shelf.Tests.{cases-lt, le-ltb, and-left}
-use Rattle.std.specs.Iters.{counting}
 use Rattle.matching.specs.Counts.{sum, count-of, one-if}
-use Rattle.matching.specs.Printed.{Image}
 use Rattle.matching.specs.Words.{word-of}
 use Rattle.photo.specs.declared.Photograph.{Photograph}
 use Rattle.printed.specs.Gathered.{image-of, width-of}

@@ -8,7 +8,6 @@ use Rattle.std.specs.Results.{isOk}
 use Rattle.face.specs.Verdict.{face-verdict}
 use Rattle.face.proofs.Exact.{laid-from-isOk}
 use Rattle.matching.proofs.Lawful.{printed-lawful}
-use Rattle.photo.specs.Verdict.{photo-verdict}
 use Rattle.photo.specs.declared.Photograph.{Photograph}
 use Rattle.photo.proofs.Exact.{laid-from-isOk as photo-laid}
 use Rattle.scorer.specs.Meaning.{Lawful}

@@ -1,11 +1,11 @@
 -- What the printed scorer is of: a face and a photograph. Assumes nothing.
 use mathlib.Core.Path.{_≡_}
 use mathlib.Core.Bool.{true}
-use mathlib.Core.List.{List, map}
+use mathlib.Core.List.{List}
 use Prim.Native.Nat.{ℕ, _*_, _/_, _%_, _≤_, _<_}
 use lib.Dec.{ltb}
 use lib.IntN.{ℤ, pos}
-use lib.ListN.{length, getD}
+use lib.ListN.{getD}
 use Rattle.face.specs.Fields.{count, columns-before}
 use Rattle.matching.specs.Printed.{printed-meaning, value-of}
 use Rattle.photo.specs.declared.Photograph.{Photograph}

@@ -1,7 +1,7 @@
 -- What is gathered of a face and of an image before any question. Assumes nothing.
 use mathlib.Core.Path.{_≡_}
 use mathlib.Core.List.{List, map}
-use Prim.Native.Nat.{ℕ, _+_, _*_}
+use Prim.Native.Nat.{ℕ, _+_}
 use lib.IntN.{ℤ}
 use Rattle.std.specs.Iters.{counting}
 use Rattle.std.specs.shelf.Lists.{between}

@@ -1,10 +1,9 @@
 -- The values of a box column for each number of black pixels, as a table keeps them. Assumes nothing.
-use mathlib.Core.Path.{_≡_}
 use mathlib.Core.List.{List}
-use Prim.Native.Nat.{ℕ, _+_, _-_, _*_, _^_, _≤_, _<_}
-use lib.IntN.{ℤ, pos, negℤ, _+ℤ_, _*ℤ_}
-use lib.ListN.{getD, length}
-use Rattle.matching.specs.Column.{fewest, spread, column-value}
+use Prim.Native.Nat.{ℕ, _-_, _^_, _<_}
+use lib.IntN.{ℤ, pos, _+ℤ_, _*ℤ_}
+use lib.ListN.{getD}
+use Rattle.matching.specs.Column.{fewest, spread}
 use Rattle.matching.specs.Counts.{greatest}
 use Rattle.matching.proofs.Ranges.{Within}
 

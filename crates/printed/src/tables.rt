@@ -1,16 +1,16 @@
 // What is worked out once for a face: what each template earns wherever it stands, and what each of its columns can earn.
 ghost use denote.Ref.{now as held};
-ghost use lib.IntN.{ℤ, pos, _+ℤ_, _*ℤ_};
+ghost use lib.IntN.{pos, _*ℤ_};
 ghost use mathlib.Core.List.{map};
 ghost use mathlib.Core.Path.{_≡_};
-ghost use Prim.Native.Nat.{ℕ, _+_, _*_, _≤_, _<_, _^_};
+ghost use Prim.Native.Nat.{_+_, _≤_, _<_, _^_};
 ghost use Rattle.std.specs.Iters.{counting};
 ghost use Rattle.std.specs.Of.Vec.{vec-items};
 ghost use Rattle.std.specs.Vec.{made};
-ghost use Rattle.face.specs.Fields.{count, levels, gamma, beta, prior, box-width, columns-before, column-start};
+ghost use Rattle.face.specs.Fields.{count, levels, gamma, beta, prior, box-width, columns-before};
 ghost use Rattle.face.specs.Laid.{Face-laid};
 ghost use Rattle.matching.proofs.Ranges.{Within};
-ghost use Rattle.matching.specs.Printed.{base as base-of, pixels, rows as rows-of};
+ghost use Rattle.matching.specs.Printed.{base as base-of, pixels};
 ghost use Rattle.printed.specs.Tables.{weights-of, Boxed};
 ghost use Rattle.printed.specs.Tabulated.{template-of, Values-to, Tabulated};
 use super::glyph::Glyph;

@@ -1,8 +1,8 @@
 // The values of a box column for each number of black pixels, computed level by level.
-ghost use lib.IntN.{ℤ, pos, _+ℤ_, _*ℤ_};
-ghost use lib.ListN.{getD, length};
+ghost use lib.IntN.{pos, _*ℤ_};
+ghost use lib.ListN.{getD};
 ghost use mathlib.Core.Path.{_≡_};
-ghost use Prim.Native.Nat.{ℕ, _+_, _-_, _*_, _^_, _≤_, _<_};
+ghost use Prim.Native.Nat.{ℕ, _+_, _-_, _*_, _≤_, _<_};
 ghost use Rattle.matching.proofs.Ranges.{Within};
 ghost use Rattle.printed.specs.Values.{with-level, best-with-level, Small};
 

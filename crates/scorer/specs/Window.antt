@@ -1,13 +1,11 @@
 -- A window over a scorer: some of its columns, as a line of their own. Assumes nothing.
-use mathlib.Core.Path.{_≡_, refl}
-use mathlib.Core.Bool.{Bool, true, false, cond, _&&_}
-use Prim.Native.Nat.{ℕ, _+_, _≤_, _<_}
-use native.Mathlib.Omega.{arith}
-use lib.Dec.{leb, ltb}
+use mathlib.Core.Bool.{Bool, cond, _&&_}
+use Prim.Native.Nat.{ℕ, _+_}
+use lib.Dec.{leb}
 use lib.IntN.{ℤ}
 use Rattle.refusal.specs.declared.Refusal.the-variants.{WindowBeyond}
 use Rattle.refusal.specs.First.{Verdict, ensure}
-use Rattle.scorer.specs.Meaning.{Meaning, Lawful}
+use Rattle.scorer.specs.Meaning.{Meaning}
 
 -- some columns from a on lie on a line of so many
 abbrev pub window-fits : ℕ → ℕ → ℕ → Bool

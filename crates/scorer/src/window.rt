@@ -1,10 +1,9 @@
 // A window: some columns of a line, from a first one on, as a line of their own.
 ghost use mathlib.Core.Path.{_≡_};
 ghost use Rattle.bytes.specs.Absent.{present};
-ghost use Rattle.refusal.specs.First.{Verdict};
 ghost use Rattle.std.specs.declared.result.Result.the-variants.{Ok};
 ghost use Rattle.scorer.specs.Meaning.{is-node};
-ghost use Rattle.scorer.specs.Window.{window-fits, window-verdict, windowed, windowed-by, window-meaning, column-below, shifts-below};
+ghost use Rattle.scorer.specs.Window.{window-fits, window-verdict, windowed, window-meaning, column-below, shifts-below};
 ghost use Rattle.scorer.specs.WindowLaw.{window-lawful};
 use super::PlacedScorer;
 use super::Scorer;

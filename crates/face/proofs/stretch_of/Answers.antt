@@ -2,7 +2,7 @@ use mathlib.Core.Path.{_≡_, ap, _∙_}
 use Prim.Native.Nat.{_+_, _*_}
 use native.Mathlib.Omega.{arith}
 use Rattle.bytes.specs.Numbers.{byte-at}
-use Rattle.face.specs.Fields.{levels, box-width, columns-before, columns-start, word-start}
+use Rattle.face.specs.Fields.{levels, box-width, columns-start, word-start}
 use Rattle.face.proofs.Columns.{columns-end, columns-within}
 use Rattle.face.proofs.stretch_of.Needs as need
 

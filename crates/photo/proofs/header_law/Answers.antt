@@ -1,4 +1,4 @@
-use mathlib.Core.Path.{refl, ap}
+use mathlib.Core.Path.{ap}
 use Rattle.std.specs.Results.{isOk}
 use Rattle.photo.specs.Verdict.{header-of, told-header}
 use Rattle.photo.proofs.header_law.Needs as need

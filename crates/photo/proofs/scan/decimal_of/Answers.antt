@@ -1,7 +1,5 @@
-use mathlib.Core.Path.{_≡_, refl, sym, ap, _∙_}
-use Prim.Native.Nat.{_<_}
+use mathlib.Core.Path.{refl, ap, _∙_}
 use native.Mathlib.Omega.{arith}
-use lib.ListN.{take}
 use Rattle.std.proofs.shelf.Lists.{take-all}
 use Rattle.photo.specs.Header.{decimal}
 use Rattle.photo.proofs.Runs.{decimal-more, decimal-small}

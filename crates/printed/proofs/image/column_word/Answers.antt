@@ -1,6 +1,5 @@
-use mathlib.Core.Path.{refl, sym, ap, _∙_}
-use Prim.Native.Nat.{_+_, _*_, _^_, _<_}
-use native.Mathlib.Numerals.{add-one}
+use mathlib.Core.Path.{refl, sym, _∙_}
+use Prim.Native.Nat.{_+_, _*_, _^_}
 use native.Mathlib.Omega.{arith}
 use Rattle.matching.specs.Counts.{one-if}
 use Rattle.matching.specs.Words.{word-of}

@@ -1,12 +1,11 @@
-use mathlib.Core.Path.{_≡_, sym, ap, subst, _∙_}
-use Prim.Native.Nat.{ℕ, _+_, _<_}
+use mathlib.Core.Path.{_≡_, ap, _∙_}
+use Prim.Native.Nat.{_+_}
 use native.Mathlib.Omega.{arith}
 use lib.ListN.{length}
 use borrow.Author.Needs.{needs}
-use Rattle.face.specs.Fields.{columns-before, box-width}
+use Rattle.face.specs.Fields.{columns-before}
 use Rattle.face.proofs.Columns.{columns-more}
 use Rattle.matching.specs.Printed.{rows}
-use Rattle.printed.specs.Tabulated.{Values-to}
 use Rattle.printed.proofs.Ties.{values-are}
 use Rattle.printed.proofs.Valued.{row-added, values-like}
 use Rattle.printed.proofs.tables.add_values.Needs as need

@@ -1,12 +1,11 @@
-use mathlib.Core.Path.{_≡_, sym, ap, subst, _∙_}
-use Prim.Native.Nat.{_*_, _^_, _≤_, _<_}
+use mathlib.Core.Path.{_∙_}
+use Prim.Native.Nat.{_*_, _^_}
 use native.Mathlib.Omega.{arith}
 use lib.IntN.{pos, _*ℤ_}
 use mir.Syntax.{w16}
 use mir.Val.{SFits}
 use borrow.Author.Needs.{needs}
-use Rattle.std.proofs.shelf.Signed.{ints, toZ-ofZ}
-use Rattle.face.specs.Fields.{beta}
+use Rattle.std.proofs.shelf.Signed.{toZ-ofZ}
 use Rattle.matching.specs.Printed.{pixels}
 use Rattle.matching.proofs.Ranges.{within-more}
 use Rattle.printed.proofs.Adding.{handed}

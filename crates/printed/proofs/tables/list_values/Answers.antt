@@ -1,8 +1,7 @@
-use mathlib.Core.Path.{refl, sym, ap, _∙_}
-use Prim.Native.Nat.{_+_}
+use mathlib.Core.Path.{refl}
 use native.Mathlib.Omega.{arith}
 use Rattle.face.specs.Fields.{columns-before}
-use Rattle.face.proofs.Columns.{columns-more, columns-few}
+use Rattle.face.proofs.Columns.{columns-more}
 use Rattle.printed.proofs.Valued.{no-values}
 use Rattle.printed.proofs.tables.list_values.Needs as need
 

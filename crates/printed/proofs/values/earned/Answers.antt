@@ -1,12 +1,9 @@
-use mathlib.Core.Path.{_≡_, sym, ap, subst, _∙_}
-use Prim.Native.Nat.{_*_, _≤_}
+use mathlib.Core.Path.{_≡_}
 use native.Mathlib.Omega.{arith}
-use lib.IntN.{ℤ, pos, negℤ, _*ℤ_}
-use lib.Signed.{_≤ℤ_}
+use lib.IntN.{pos, _*ℤ_}
 use mir.Syntax.{w64, w16}
 use mir.Val.{toZ, ofZ, SFits}
-use borrow.Author.Needs.{needs}
-use Rattle.std.proofs.shelf.Signed.{ints, toZ-ofZ, toZ-pos}
+use Rattle.std.proofs.shelf.Signed.{ints}
 use Rattle.matching.proofs.Sums.{times-within}
 use Rattle.printed.proofs.values.earned.Needs as need
 

@@ -1,9 +1,7 @@
 use mathlib.Core.Path.{_≡_}
-use Prim.Native.Nat.{_+_, _*_, _/_, _^_}
-use lib.ListN.{getD}
+use Prim.Native.Nat.{_*_, _^_}
 use denote.Ref.{now}
 use Rattle.matching.proofs.Ranges.{Within}
-use Rattle.matching.specs.Counts.{sum-signed}
 use Rattle.printed.specs.Glyph.{gain-at}
 use Rattle.printed.proofs.glyph.Glyph.gain_at.Given as given
 

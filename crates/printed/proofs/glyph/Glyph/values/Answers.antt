@@ -1,15 +1,15 @@
-use mathlib.Core.Path.{_≡_, refl, sym, subst, ap, _∙_}
-use Prim.Native.Nat.{ℕ, _+_, _-_, _*_, _^_, _≤_, _<_}
+use mathlib.Core.Path.{sym, subst, _∙_}
+use Prim.Native.Nat.{ℕ, _-_, _*_, _^_, _≤_}
 use native.Mathlib.Omega.{arith}
 use lib.IntN.{pos, negℤ}
 use mir.Syntax.{w16}
 use mir.Val.{SFits}
-use lib.ListN.{getD, length, getD-replicate}
+use lib.ListN.{length, getD-replicate}
 use Rattle.std.proofs.shelf.Tests.{leb-true}
 use Rattle.std.proofs.shelf.Signed.{ints, toZ-ofZ}
 use Rattle.bytes.proofs.Ranges.{decides-signed}
-use Rattle.matching.specs.Column.{column-value, fewest, spread}
-use Rattle.matching.specs.Counts.{sum, greatest}
+use Rattle.matching.specs.Column.{column-value}
+use Rattle.matching.specs.Counts.{sum}
 use Rattle.matching.proofs.Ranges.{Within, within-more}
 use Rattle.matching.proofs.Column.{column-value-within}
 use Rattle.matching.proofs.Sums.{sum-more}

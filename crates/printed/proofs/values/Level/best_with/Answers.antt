@@ -1,10 +1,9 @@
 use mathlib.Core.Path.{_≡_, sym, ap, _∙_}
 use Prim.Native.Nat.{_+_}
-use native.Mathlib.Omega.{arith}
 use mir.Syntax.{w64}
 use mir.Val.{toZ, ofZ, SFits}
 use borrow.Author.Needs.{needs}
-use Rattle.std.proofs.shelf.Signed.{ints, toZ-ofZ}
+use Rattle.std.proofs.shelf.Signed.{toZ-ofZ}
 use Rattle.std.specs.Numbers.{maxZ}
 use Rattle.matching.specs.Column.{fewest}
 use Rattle.matching.specs.Counts.{greatest}

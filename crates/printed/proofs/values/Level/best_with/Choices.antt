@@ -1,5 +1,5 @@
 use mathlib.Core.Path.{_≡_}
-use Rattle.matching.specs.Column.{fewest, spread}
+use Rattle.matching.specs.Column.{fewest}
 use Rattle.matching.specs.Counts.{greatest}
 use Rattle.printed.specs.Values.{with-level}
 use Rattle.printed.proofs.values.Level.best_with.Given as given
