@@ -50,11 +50,6 @@ pub struct Printed<'f, 'p, 'c, 't> {
     ghost valued: { Valued (held (face .bytes)) (held values) },
 }
 
-// Does nothing: its contract is the laws that printed scores and bounds are what they are called.
-fn scores_law(face: &Face, photo: &Photograph)
-    ensures { λ _. ⌜ Printed-scores (held (now (face .entry) .bytes)) (image-of (now (photo .entry))) ⌝ }
-{}
-
 impl<'f, 'p, 'c, 't> Printed<'f, 'p, 'c, 't> {
     // The scorer of a face and a photograph, with the columns that `gather` and the tables that `tabulate` made of them.
     pub fn new(
@@ -240,3 +235,8 @@ pub impl<'f, 'p, 'c, 't> PlacedScorer for Printed<'f, 'p, 'c, 't> as PrintedPlac
         Some(best.shift())
     }
 }
+
+// Does nothing: its contract is the laws that printed scores and bounds are what they are called.
+fn scores_law(face: &Face, photo: &Photograph)
+    ensures { λ _. ⌜ Printed-scores (held (now (face .entry) .bytes)) (image-of (now (photo .entry))) ⌝ }
+{}
