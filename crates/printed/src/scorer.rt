@@ -9,7 +9,6 @@ ghost use Rattle.std.specs.Iters.{counting};
 ghost use Rattle.std.specs.Slices.{found};
 ghost use Rattle.bytes.specs.Absent.{present};
 ghost use Rattle.face.specs.Fields.{count, columns-before};
-ghost use Rattle.face.specs.Laid.{Face-laid};
 ghost use Rattle.matching.proofs.Lawful.{shift-within};
 ghost use Rattle.matching.proofs.Ranges.{Within};
 ghost use Rattle.matching.specs.Printed.{rows, black-count, value-of, bound-score, score-at, shift-of};
@@ -27,6 +26,7 @@ use super::image::Columns;
 use super::tables::Tables;
 use super::tables::Template;
 use super::tables::glyph_of;
+use super::tables::laid;
 use face::Face;
 use photo::Photograph;
 use scorer::PlacedScorer;
@@ -85,6 +85,7 @@ impl<'f, 'p, 'c, 't> Printed<'f, 'p, 'c, 't> {
             None
         }
     }
+
     // What is known of a node's template.
     fn node(&self, x: usize, t: usize) -> Option<Template>
         ensures value { λ r. ⌜ r ≡ present (is-node (line-meaning (held (now (self .entry) .face .bytes)) (now (self .entry) .photo)) x t) (template-of (held (now (self .entry) .face .bytes)) t) ⌝ }
@@ -104,7 +105,7 @@ impl<'f, 'p, 'c, 't> Printed<'f, 'p, 'c, 't> {
         ensures value { λ r. ⌜ r ≡ black-count (held (now (self .entry) .face .bytes)) (image-of (now (self .entry) .photo)) x ⌝ }
         ensures bound { λ r. ⌜ r ≤ 36 ⌝ }
     {
-        self.face_law();
+        laid(&self.face);
         if x < self.blacks.len() {
             self.blacks[x]
         } else {
@@ -112,26 +113,22 @@ impl<'f, 'p, 'c, 't> Printed<'f, 'p, 'c, 't> {
         }
     }
 
-    // Does nothing: its contract is the law that the face has its layout.
-    fn face_law(&self)
-        ensures { λ _. ⌜ Face-laid (held (now (self .entry) .face .bytes)) ⌝ }
-    {}
-
     // What a column of the face can earn over a column of the photograph.
     fn value_at(&self, column: usize, x: usize) -> i64
         requires { ⌜ column < columns-before (held (now self .face .bytes)) (count (held (now self .face .bytes))) ⌝ }
         ensures value { λ r. ⌜ r ≡ value-of (held (now (self .entry) .face .bytes)) column (black-count (held (now (self .entry) .face .bytes)) (image-of (now (self .entry) .photo)) x) ⌝ }
         ensures range { λ r. ⌜ Within 144000 r ⌝ }
     {
-        self.face_law();
+        laid(&self.face);
         self.values[column * 37 + self.black_at(x)]
     }
+
     // The bound of a node.
     fn bound_of(&self, template: Template, x: usize, t: usize) -> i64
         requires { ⌜ t < count (held (now self .face .bytes)) ⌝ ∗ ⌜ x ≤ 2048 ⌝ ∗ ⌜ template ≡ template-of (held (now self .face .bytes)) t ⌝ }
         ensures { λ r. ⌜ r ≡ bound-score (held (now (self .entry) .face .bytes)) (image-of (now (self .entry) .photo)) x t ⌝ }
     {
-        self.face_law();
+        laid(&self.face);
         let mut bound = template.base;
         for c in 0..template.width {
             bound += self.value_at(template.first + c, x + c);
@@ -144,9 +141,10 @@ impl<'f, 'p, 'c, 't> Printed<'f, 'p, 'c, 't> {
         requires { ⌜ Stands (held (now self .face .bytes)) x t template (held (now glyph .words)) (held (now glyph .weights)) (now glyph .width) ⌝ ∗ ⌜ s ≤ 4 ⌝ }
         ensures { λ r. ⌜ r ≡ score-at (held (now (self .entry) .face .bytes)) (image-of (now (self .entry) .photo)) x t s ⌝ }
     {
-        self.face_law();
+        laid(&self.face);
         template.base + glyph.gain_at(self.words, x, s)
     }
+
     // The better of two rows: row `s` only where its score is above that of the best row so far.
     fn better(
         &self,

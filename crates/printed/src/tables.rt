@@ -68,7 +68,7 @@ fn width_of(face: &Face, t: usize) -> usize
 }
 
 // Does nothing: its contract is the law that a face has its layout.
-fn laid(face: &Face)
+pub(crate) fn laid(face: &Face)
     ensures { λ _. ⌜ Face-laid (held (now (face .entry) .bytes)) ⌝ }
 {}
 

@@ -45,6 +45,7 @@ impl Level {
         }
         best
     }
+
     // The table of what `table` is of and the level.
     pub(crate) fn lay(&self, table: &[i64; 37]) -> [i64; 37]
         requires { ⌜ Small (now table) ⌝ }

@@ -66,6 +66,7 @@ impl Questions for EveryNode as EveryNodeQuestions {
                 }
             }
         }
+
         // 61, 60, 57 and 55 nodes.
         check_eq(found, 233)?;
         check(apart >= 1 && apart < 172)

@@ -191,6 +191,7 @@ impl Questions for Spans as SpansQuestions {
             check_eq(told(scorer, *first, *width), (*number, *place))?;
             check_eq(told(&scorer, *first, *width), (*number, *place))?;
         }
+
         // Over a window its own width counts, and not the width below.
         let middle = window(scorer, 1, 5)?;
         check_eq(told(&middle, 0, 5), (0, 0))?;

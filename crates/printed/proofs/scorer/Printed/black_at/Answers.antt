@@ -14,7 +14,7 @@ returns-then-x-self c =
     let x = c .args .x in
     let value : getD (self .blacks .now) x 0 ≡ black-count face (image-of (self .photo)) x =
     ap (λ l. getD l x 0) (self .counted) ∙ black-at-column (self .photo) (rows face) x in
-    record { value = value; bound = omega (arith, count-le (rows face) (image-of (self .photo) x), c .face-law .ensures .high .1) }
+    record { value = value; bound = omega (arith, count-le (rows face) (image-of (self .photo) x), c .laid .ensures .high .1) }
 
 pub returns-else-x-self : need.returns-else-x-self
 returns-else-x-self c =

@@ -18,15 +18,15 @@ loop-c-holds c =
     let face = c .args .self .now .face .bytes .now in
     let p = c .args .template in
     let e = c .pre .1 .1 in
-    handed 1034000 (p .base) _ (base-is face (c .face-law .ensures) (c .args .t) (c .pre .0) p e ∙ omega (arith, ints)) (base-small face (c .face-law .ensures) (c .args .t) (c .pre .0) p e) (omega arith)
+    handed 1034000 (p .base) _ (base-is face (c .laid .ensures) (c .args .t) (c .pre .0) p e ∙ omega (arith, ints)) (base-small face (c .laid .ensures) (c .args .t) (c .pre .0) p e) (omega arith)
 
 pub add-template : need.add-template
 add-template c =
-    omega (arith, column-few (c .args .self .now .face .bytes .now) (c .face-law .ensures) (c .args .t) (c .pre .0) (c .args .template) (c .pre .1 .1) (c .loop-c .c) (c .loop-c-test .taken))
+    omega (arith, column-few (c .args .self .now .face .bytes .now) (c .laid .ensures) (c .args .t) (c .pre .0) (c .args .template) (c .pre .1 .1) (c .loop-c .c) (c .loop-c-test .taken))
 
 pub value-at-bound-requires : need.value-at-bound-requires
 value-at-bound-requires c κs =
-    column-known (c .args .self .now .face .bytes .now) (c .face-law .ensures) (c .args .t) (c .pre .0) (c .args .template) (c .pre .1 .1) (c .loop-c .c) (c .loop-c-test .taken)
+    column-known (c .args .self .now .face .bytes .now) (c .laid .ensures) (c .args .t) (c .pre .0) (c .args .template) (c .pre .1 .1) (c .loop-c .c) (c .loop-c-test .taken)
 
 pub loop-c-again : need.loop-c-again
 loop-c-again c =
@@ -37,10 +37,10 @@ loop-c-again c =
     let i = c .loop-c .c in
     let inv = c .loop-c .inv in
     let here = c .value-at-bound .ensures in
-    let at = ap (λ q. value-of face (q + i) (black-count face image (x + i))) (first-is face (c .face-law .ensures) t (c .pre .0) (c .args .template) (c .pre .1 .1)) in
+    let at = ap (λ q. value-of face (q + i) (black-count face image (x + i))) (first-is face (c .laid .ensures) t (c .pre .0) (c .args .template) (c .pre .1 .1)) in
     let more = sum-signed-onto (base face t) i (λ k. value-of face (columns-before face t + k) (black-count face image (x + k))) in
-    let few = width-is face (c .face-law .ensures) t (c .pre .0) (c .args .template) (c .pre .1 .1) in
-    let boxed = c .face-law .ensures .templates-laid t (c .pre .0) .boxed in
+    let few = width-is face (c .laid .ensures) t (c .pre .0) (c .args .template) (c .pre .1 .1) in
+    let boxed = c .laid .ensures .templates-laid t (c .pre .0) .boxed in
     added (1034000 + 144000 * i) 144000 (1034000 + 144000 * (i + 1)) _ _ _ _ _ (inv .0) (here .value ∙ at) more (inv .1) (here .range) (omega arith) (omega arith)
 
 pub returns : need.returns
@@ -50,5 +50,5 @@ returns c =
     let image = image-of (c .args .self .now .photo) in
     let t = c .args .t in
     let x = c .args .x in
-    let all : c .loop-c .c ≡ box-width face t = omega (arith, width-is face (c .face-law .ensures) t (c .pre .0) (c .args .template) (c .pre .1 .1)) in
+    let all : c .loop-c .c ≡ box-width face t = omega (arith, width-is face (c .laid .ensures) t (c .pre .0) (c .args .template) (c .pre .1 .1)) in
     c .loop-c .inv .0 ∙ ap (λ n. base face t +ℤ sum-signed n (λ k. value-of face (columns-before face t + k) (black-count face image (x + k)))) all

@@ -10,7 +10,7 @@ pub add-result : need.add-result
 add-result c =
     let face = c .args .self .now .face .bytes .now in
     let stands = c .pre .0 in
-    let small = base-small face (c .face-law .ensures) (c .args .t) (stands .known) (c .args .template) (stands .is) in
+    let small = base-small face (c .laid .ensures) (c .args .t) (stands .known) (c .args .template) (stands .is) in
     let range = c .gain-at .ensures .range in
     omega (arith, ints, small .0, small .1, range .0, range .1)
 
@@ -18,7 +18,7 @@ pub returns : need.returns
 returns c =
     let self = c .args .self .now in
     let face = self .face .bytes .now in
-    let laid = c .face-law .ensures in
+    let laid = c .laid .ensures in
     let t = c .args .t in
     let p = c .args .template in
     let glyph = c .args .glyph .now in

@@ -14,6 +14,6 @@ returns c =
     let black = c .black-at .ensures .value in
     let few = c .black-at .ensures .bound in
     let entry = value-entry face (self .values .now) column (c .black-at .result) (self .valued) (c .pre) (omega arith) in
-    let small = subst (Within 144000) (sym entry) (value-small face (c .face-law .ensures) column (c .black-at .result) few) in
+    let small = subst (Within 144000) (sym entry) (value-small face (c .laid .ensures) column (c .black-at .result) few) in
     let r = handed 144000 _ _ (entry ∙ ap (value-of face column) black) small (omega arith) in
     record { value = r .0; range = r .1 }
