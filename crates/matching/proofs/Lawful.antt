@@ -8,11 +8,12 @@ use lib.IntN.{ℤ, pos, _+ℤ_, _*ℤ_}
 use lib.Signed.{_≤ℤ_}
 use Rattle.std.proofs.shelf.Bits.{mul-le}
 use Rattle.std.proofs.shelf.Signed.{ints}
-use Rattle.std.proofs.shelf.Tests.{and-parts, ltb-true, eqb-true}
+use Rattle.std.proofs.shelf.Tests.{eqb-true}
 use Rattle.face.specs.Fields.{count, levels, height, gamma, beta, box-width, prior, columns-before}
 use Rattle.face.specs.Laid.{Face-laid}
 use Rattle.face.proofs.Columns.{column-there}
-use Rattle.scorer.specs.Meaning.{Lawful, Scores-lawful, Shift-within, is-template}
+use Rattle.scorer.specs.Nodes.{node-known}
+use Rattle.scorer.specs.Meaning.{Lawful, Scores-lawful, Shift-within}
 use Rattle.matching.specs.Counts.{sum, sum-signed, one-if, greatest, lowest}
 use Rattle.matching.specs.Column.{gain, Choice, Is-column-value}
 use Rattle.matching.specs.Printed.{Image, pixel, rows, ink, column-pixels, pixels, base, free-rows, value-of, column-over-black, over-black, score-at, exact-score, shift-of, black-count, bound-score, printed-meaning}
@@ -148,7 +149,7 @@ printed-lawful face image width laid some few = record {
   counted = laid .counted;
   set = λ t h. laid .templates-laid t h .set;
   scored = λ x t n.
-      exact-and-bound face laid t (ltb-true t (count face) (and-parts (is-template (printed-meaning face image width) t) _ n .0)) image x;
+      exact-and-bound face laid t (node-known (printed-meaning face image width) x t n) image x;
 }
 
 pub shift-within : (face : List ℕ) (image : Image) (x t : ℕ) → Shift-within (shift-of face image x t)

@@ -1,3 +1,4 @@
 pub mod Meaning
+pub mod Nodes
 pub mod Window
 pub mod WindowLaw

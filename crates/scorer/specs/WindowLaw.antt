@@ -4,8 +4,9 @@ use mathlib.Core.Bool.{Bool, true, false, cond}
 use Prim.Native.Nat.{ℕ, _+_, _≤_}
 use native.Mathlib.Omega.{arith}
 use lib.Dec.{leb}
-use Rattle.std.proofs.shelf.Tests.{and-parts, and-from, leb-true, le-leb}
-use Rattle.scorer.specs.Meaning.{Meaning, Lawful, Node, is-template}
+use Rattle.std.proofs.shelf.Tests.{and-parts, leb-true}
+use Rattle.scorer.specs.Meaning.{Meaning, Lawful, Node}
+use Rattle.scorer.specs.Nodes.{node-known, node-ends, node-from}
 use Rattle.scorer.specs.Window.{window-fits, windowed, window-meaning}
 
 module _ (m : Meaning) (a width : ℕ) (fits : window-fits (m .width) a width ≡ true) where
@@ -18,9 +19,7 @@ module _ (m : Meaning) (a width : ℕ) (fits : window-fits (m .width) a width �
   -- a node of the window is one below
   pub node-below : (x t : ℕ) → Node (windowed m a width) x t → Node m (a + x) t
   node-below x t n =
-      let parts = and-parts (is-template m t) (leb (x + m .setwidth t) width) n in
-      let ends : a + x + m .setwidth t ≤ m .width = omega (arith, inside, leb-true (x + m .setwidth t) width (parts .1)) in
-      and-from (is-template m t) (leb (a + x + m .setwidth t) (m .width)) (parts .0) (le-leb (a + x + m .setwidth t) (m .width) ends)
+      node-from m (a + x) t (node-known (windowed m a width) x t n) (omega (arith, inside, node-ends (windowed m a width) x t n))
 
   windowed-lawful : Lawful m → Lawful (windowed m a width)
   windowed-lawful l = record {

@@ -1,4 +1,8 @@
 // The questions to a scorer, each with the answer that it must have.
+ghost use denote.Ref.{now as held};
+ghost use lib.ListN.{length};
+ghost use Rattle.std.specs.Vec.{made};
+ghost use Rattle.scorer_tests.specs.Told.{Measured};
 use super::making::Questions;
 use printed::Printed;
 use printed::PrintedPlacedScorer;
@@ -17,12 +21,11 @@ pub(crate) struct Placed(
 );
 
 // Compares width, count and setwidths.
-pub(crate) fn measures<S: Scorer>(
-    scorer: &S,
-    width: usize,
-    setwidths: &[usize],
-) -> Result<(), Fail> {
-    check_eq((scorer.width(), scorer.count()), (width, setwidths.len()))?;
+pub(crate) fn measures<S: Scorer>(scorer: &S, width: usize, setwidths: &[usize]) -> Result<(), Fail>
+    ensures { λ r. ⌜ made r (λ _. Measured (S·Scorer .meaning (now (scorer .entry))) width (length (now (setwidths .entry)))) ⌝ }
+{
+    check(scorer.width() == width)?;
+    check(scorer.count() == setwidths.len())?;
     for (t, setwidth) in setwidths.iter().enumerate() {
         check_eq(scorer.setwidth(t), Some(*setwidth))?;
     }
@@ -53,6 +56,8 @@ pub(crate) struct Answers<'a>(
 );
 
 pub(crate) impl Questions for Answers<'_> as AnswersQuestions {
+    ghost shown = { λ s m. Measured m (s .0) (length (held (s .1))) };
+
     // Asks the scorer, and asks it once more where it is lent.
     fn ask(&self, scorer: &Printed) -> Result<(), Fail> {
         measures(scorer, self.0, self.1)?;

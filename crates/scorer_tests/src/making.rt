@@ -1,4 +1,12 @@
 // Faces and photographs to score, and what is asked of their scorer.
+ghost use denote.Ref.{now as held};
+ghost use mathlib.Core.Path.{_≡_};
+ghost use Rattle.std.specs.Of.Vec.{vec-items};
+ghost use Rattle.std.specs.Vec.{made};
+ghost use Rattle.std.specs.declared.result.Result.the-variants.{Ok};
+ghost use Rattle.face.specs.Verdict.{face-verdict};
+ghost use Rattle.printed.specs.Scored.{line-meaning};
+ghost use Rattle.scorer.specs.Meaning.{Meaning};
 use face::Face;
 use photo::Photograph;
 use printed::Printed;
@@ -24,7 +32,9 @@ pub(crate) fn face_bytes(
     height: u8,
     levels: &[Level],
     shapes: &[Shape],
-) -> Result<Vec<u8>, Fail> {
+) -> Result<Vec<u8>, Fail>
+    ensures { λ r. ⌜ made r (λ v. face-verdict (vec-items v) ≡ Ok tt) ⌝ }
+{
     check(levels.len() <= 4 && shapes.len() <= 64)?;
     let mut bytes = Vec::new(heap);
     bytes.extend_from_slice(&[shapes.len() as u8, 0, levels.len() as u8, height])?;
@@ -42,6 +52,9 @@ pub(crate) fn face_bytes(
             bytes.extend_from_slice(&word.to_le_bytes())?;
         }
     }
+    let Ok(()) = face::check(&bytes) else {
+        return Err(Fail::new("the face is refused"));
+    };
     Ok(bytes)
 }
 
@@ -67,9 +80,12 @@ pub(crate) fn photo_bytes(heap: Global, header: &[u8], rows: &[&[u8]]) -> Result
     Ok(bytes)
 }
 
-// What is asked of a scorer once it is made.
+// What is asked of a scorer once it is made, and what is then known of its line.
 pub(crate) trait Questions {
-    fn ask(&self, scorer: &Printed) -> Result<(), Fail>;
+    ghost shown: { Self → Meaning → Type 0 } = { λ _ _. Unit {0} };
+
+    fn ask(&self, scorer: &Printed) -> Result<(), Fail>
+        ensures { λ r. ⌜ made r (λ _. shown (now (self .entry)) (line-meaning (held (now (scorer .entry) .face .bytes)) (now (scorer .entry) .photo))) ⌝ };
 }
 
 // Makes the scorer of a face and a photograph, and asks.
@@ -78,7 +94,9 @@ pub(crate) fn on_line<Q: Questions>(
     face_bytes: Vec<u8>,
     photo_bytes: Vec<u8>,
     questions: &Q,
-) -> Result<(), Fail> {
+) -> Result<(), Fail>
+    ensures { λ r. ⌜ made r (λ _. face-verdict (vec-items «face_bytes») ≡ Ok tt) ⌝ }
+{
     let Ok(()) = face::check(&face_bytes) else {
         return Err(Fail::new("the face is refused"));
     };

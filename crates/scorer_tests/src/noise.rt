@@ -1,4 +1,8 @@
 // A line of pixels without order: what holds at every node.
+ghost use mathlib.Core.Bool.{true};
+ghost use mathlib.Core.Path.{_≡_};
+ghost use Rattle.std.specs.Vec.{made};
+ghost use Rattle.scorer_tests.specs.Told.{Alike};
 use super::making::Level;
 use super::making::Questions;
 use super::making::Shape;
@@ -80,6 +84,17 @@ fn exact_never_above_bound(rt: LibcRuntime) -> Result<(), Fail> {
     on_line(rt.alloc(), face, noise(rt.alloc())?, &EveryNode)
 }
 
+// Whether two answers are the same.
+fn same(one: Option<i64>, other: Option<i64>) -> bool
+    ensures { λ r. ⌜ (r ≡ true → one ≡ other) ⌝ }
+{
+    match (one, other) {
+        (Some(one), Some(other)) => one == other,
+        (None, None) => true,
+        _ => false,
+    }
+}
+
 // Whether a column and a template of a window have the answers that are told `first` columns further on below.
 fn alike<S: PlacedScorer, W: PlacedScorer>(
     window: &W,
@@ -87,10 +102,12 @@ fn alike<S: PlacedScorer, W: PlacedScorer>(
     first: usize,
     x: usize,
     t: usize,
-) -> Result<(), Fail> {
+) -> Result<(), Fail>
+    ensures { λ r. ⌜ made r (λ _. Alike (W·Scorer .meaning (now (window .entry))) (S·Scorer .meaning (now (below .entry))) first x t) ⌝ }
+{
     check(first <= 61 && x <= 61)?;
-    check_eq(window.bound(x, t), below.bound(first + x, t))?;
-    check_eq(window.exact(x, t), below.exact(first + x, t))?;
+    check(same(window.bound(x, t), below.bound(first + x, t)))?;
+    check(same(window.exact(x, t), below.exact(first + x, t)))?;
     check_eq(window.shift(x, t), below.shift(first + x, t))
 }
 
@@ -99,7 +116,10 @@ fn compare<S: PlacedScorer, W: PlacedScorer>(
     window: &W,
     below: &S,
     first: usize,
-) -> Result<usize, Fail> {
+) -> Result<usize, Fail>
+    ensures { λ r. ⌜ made r (λ _. W·Scorer .meaning (now (window .entry)) .count ≡ 4) ⌝ }
+{
+    check(window.count() == 4)?;
     let mut found = 0usize;
     for t in 0..4 {
         for x in 0..61 {

@@ -17,7 +17,9 @@ use Rattle.refusal.specs.declared.Refusal.the-variants.{SheetTruncated, SheetHe
 use Rattle.scorer.specs.Meaning.{Score-within}
 use Rattle.sheet_file.specs.Fields.{width, count, setwidth, entries, node-entry, entry-start, exact-at, bound-at}
 use Rattle.sheet_file.specs.Verdict.{Headed, setwidth-lawful, entry-node, scores-within, scores-ordered, score-lawful, order-lawful, head-verdict, length-verdict, setwidths-verdict, scores-verdict, orders-verdict, sheet-verdict}
+use Rattle.scorer.specs.Nodes.{node-known, node-ends, node-from}
 use Rattle.sheet_file.specs.Laid.{Sheet-laid}
+use Rattle.sheet_file.specs.Meaning.{sheet-meaning}
 
 -- a test that is asked only where another holds
 decides-where : {N P : Type 0} (n t : Bool) → Decides n N → Decides t P → Decides (not n || t) (N → P)
@@ -90,13 +92,15 @@ module _ (sheet : List ℕ) where
         counted = p .0 .counted;
         ends = p .1 .0;
         set = p .1 .1 .0;
-        scored = λ x t h ends.
+        scored = λ x t node.
+            let h = node-known (sheet-meaning sheet) x t node in
+            let ends = node-ends (sheet-meaning sheet) x t node in
             let within = p .1 .1 .1 .0 x t h ends in
             record { exact-within = within .0; bound-within = within .1; not-above = p .1 .1 .1 .1 .0 x t h ends };
       })
       (λ r. (
         record { there = r .sized; wide = r .wide; counted = r .counted },
-        (r .ends, (r .set, ((λ x t h ends. let s = r .scored x t h ends in (s .exact-within, s .bound-within)), ((λ x t h ends. r .scored x t h ends .not-above), tt)))),
+        (r .ends, (r .set, ((λ x t h ends. let s = r .scored x t (node-from (sheet-meaning sheet) x t h ends) in (s .exact-within, s .bound-within)), ((λ x t h ends. r .scored x t (node-from (sheet-meaning sheet) x t h ends) .not-above), tt)))),
       ))
       (exactly-given (head-verdict sheet) _ exactly-head (λ h.
       exactly-more (length-verdict sheet) _ (exactly-ensure _ _ (decides-eqb (length sheet) (entry-start sheet (entries sheet))))

@@ -1,4 +1,4 @@
 pub mod Fields
 pub mod Verdict
-pub mod Laid
 pub mod Meaning
+pub mod Laid
