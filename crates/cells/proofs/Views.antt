@@ -3,7 +3,7 @@ use Rattle.std.proofs.Common.{◌≡◌, ℕ, zero, suc, ◌+◌, ◌*◌, ◌<�
 use Rattle.std.proofs.lemmas.Nat.{mul-le}
 use Rattle.std.proofs.lemmas.List.{length-set, get_or-set_same, get_or-set_other, length-take-le, get_or-take}
 use Rattle.std.proofs.lemmas.Bool.{and_parts, and_from, ltb-true, leb-true, lt-ltb, le-leb, cases_order}
-use Rattle.bytes.specs.Absent.{present}
+use Rattle.octets.specs.Absent.{present}
 use Rattle.refusal.proofs.First.{exactly_ensure}
 use Rattle.refusal.specs.declared.Refusal.TheVariants.{CellsTooFew}
 use Rattle.cells.specs.Blank.{blank}

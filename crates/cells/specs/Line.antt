@@ -1,6 +1,6 @@
 -- The measures of a line, as the code holds them. Assumes nothing.
 use Rattle.std.specs.Prelude.{◌≡◌, ℕ, ◌<◌, List, take, Option, nat_lt, slice_index}
-use Rattle.bytes.specs.Absent.{present}
+use Rattle.octets.specs.Absent.{present}
 use Rattle.scorer.specs.Meaning.{Meaning}
 use Rattle.cells.specs.declared.line.Line.{Line}
 

@@ -1,4 +1,6 @@
 // The cells that a search is lent, the line that they are laid out for, and where each thing lies in them.
+#![tactic(auto)]
+
 mod cell;
 mod layout;
 mod line;

@@ -1,4 +1,6 @@
 // Lists pairs of files that lie at the edge of what can be read, and prints what is told of each.
+#![tactic(auto)]
+
 use listing::{list_files, print_answer};
 
 fn show(rt: &HostRuntime, what: &str, face: &str, photo: &str) -> anyhow::Result<()> {

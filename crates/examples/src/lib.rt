@@ -1,4 +1,6 @@
 // The worked examples: small cases, shown of the definitions, and asked of the code.
+#![tactic(auto)]
+
 ghost use Rattle.std.specs.Prelude.{◌≡◌};
 ghost use Rattle.examples.specs.Worked.{WorkedExamples};
 ghost use Rattle.scorer.specs.Window.{window_verdict};

@@ -2,10 +2,10 @@
 use Rattle.std.proofs.Common.{◌≡◌, ℕ, ◌+◌, ◌-◌, ◌*◌, ◌/◌, ◌%◌, ◌<◌, ◌≤◌, true, List, length, is_ok, Decides, sym, ap, ◌∙◌, subst, mul_comm, arith}
 use Rattle.std.proofs.lemmas.Nat.{div-add-mod', div-mul-add, mod-mul-add, mod_below, div_below, mul-add-lt}
 use Rattle.std.proofs.lemmas.Bool.Decides.{Decides-and, Decides-eqb, Decides-like}
-use Rattle.bytes.specs.Bits.{Bit}
-use Rattle.bytes.specs.Numbers.{byte_at}
-use Rattle.bytes.proofs.Bits.{bits_below, bits_apart}
-use Rattle.bytes.proofs.Ranges.{decides_leb, decides_from_to, decides_signed}
+use Rattle.octets.specs.Bits.{Bit}
+use Rattle.octets.specs.Numbers.{byte_at}
+use Rattle.octets.proofs.Bits.{bits_below, bits_apart}
+use Rattle.octets.proofs.Ranges.{decides_leb, decides_from_to, decides_signed}
 use Rattle.refusal.specs.First.{Exactly}
 use Rattle.refusal.proofs.First.{decides_each, exactly_ensure, exactly_each, exactly_none, exactly_more, exactly_given, exactly_like, ok_from_is_ok}
 use Rattle.refusal.specs.declared.Refusal.TheVariants.{FaceSize, FaceHead, FaceTruncated}

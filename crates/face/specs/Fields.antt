@@ -1,6 +1,6 @@
 -- Where a face's bytes hold what. Assumes nothing.
 use Rattle.std.specs.Prelude.{ℕ, zero, suc, ◌+◌, ◌*◌, Bool, ◌&&◌, List, length, ℤ, pos, int_lt, nat_le}
-use Rattle.bytes.specs.Numbers.{byte_at, u16_at, u32_at, i16_at}
+use Rattle.octets.specs.Numbers.{byte_at, u16_at, u32_at, i16_at}
 
 -- the head: how many templates and levels, and the rows of a box
 abbrev pub count : List ℕ → ℕ

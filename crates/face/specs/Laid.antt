@@ -1,7 +1,7 @@
 -- The layout of a face, in words. Assumes nothing.
 use Rattle.std.specs.Prelude.{◌≡◌, ℕ, ◌+◌, ◌*◌, ◌<◌, ◌≤◌, List, length, pos, neg_ℤ, ◌≤ℤ◌}
-use Rattle.bytes.specs.Bits.{Bit}
-use Rattle.bytes.specs.Numbers.{byte_at}
+use Rattle.octets.specs.Bits.{Bit}
+use Rattle.octets.specs.Numbers.{byte_at}
 use Rattle.face.specs.Fields.{count, levels, height, gamma, beta, template_start, name, setwidth, box_width, prior, word_start, word_at, columns_before}
 
 -- the weights of level l

@@ -1,7 +1,7 @@
 -- What the check of a face answers: the first refusal in the order of its checks. Assumes nothing.
 use Rattle.std.specs.Prelude.{ℕ, ◌+◌, ◌-◌, ◌*◌, ◌%◌, ◌^◌, ◌≤◌, Bool, ◌&&◌, List, [], ◌∷◌, length, pos, neg_ℤ, ◌==◌, bit_and, nat_le, nat_lt}
-use Rattle.bytes.specs.Numbers.{byte_at}
-use Rattle.bytes.specs.Ranges.{from_to, signed_from_to}
+use Rattle.octets.specs.Numbers.{byte_at}
+use Rattle.octets.specs.Ranges.{from_to, signed_from_to}
 use Rattle.refusal.specs.declared.Refusal.TheVariants.{FaceSize, FaceHead, FaceTruncated, FaceLevel, FaceTemplate, FaceLength, FaceWord}
 use Rattle.refusal.specs.First.{Verdict, each, ensure, ensure_each, first_refusal}
 use Rattle.face.specs.Fields.{count, levels, height, level_start, gamma, beta, template_start, name, setwidth, box_width, prior, word_start, word_at, columns_before}

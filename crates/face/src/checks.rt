@@ -1,12 +1,12 @@
 // The checks of a face, in their order.
 ghost use Rattle.std.specs.Prelude.{◌≡◌, ℕ, ◌+◌, ◌-◌, ◌*◌, ◌%◌, ◌^◌, ◌<◌, ◌≤◌, Bool, length, OnOk};
-ghost use Rattle.bytes.specs.Ranges.{from_to, signed_from_to};
+ghost use Rattle.octets.specs.Ranges.{from_to, signed_from_to};
 ghost use Rattle.refusal.specs.First.{each, first_failing, IsFirst, Exactly};
 ghost use Rattle.face.specs.Fields.{word_at, word_start, count, levels, height, level_start, template_start, columns_before, column_start};
 ghost use Rattle.face.specs.Laid.{FaceLaid};
 ghost use Rattle.face.specs.Verdict.{spare_lawful, head_verdict, level_lawful, levels_verdict, template_lawful, templates_verdict, word_lawful, apart, words, length_verdict, words_verdict, checks_verdict, face_verdict, Headed};
 
-use bytes::{byte_at, i16_at, u16_at, u32_at};
+use octets::{byte_at, i16_at, u16_at, u32_at};
 use refusal::{Refusal, ensure};
 
 const SMALLEST: usize = 4;

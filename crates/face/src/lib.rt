@@ -1,17 +1,19 @@
 // A face: the character templates by which a line is read, held as the bytes of its file.
+#![tactic(auto)]
+
 ghost use Rattle.std.specs.Prelude.{◌≡◌, ◌+◌, ◌^◌, ◌<◌, ◌≤◌, true, length, IfSome, is_ok, Ok, nat_lt};
 ghost use Rattle.std.specs.Option.{option_map};
 ghost use Rattle.std.specs.List.{between};
-ghost use Rattle.bytes.specs.Absent.{present};
+ghost use Rattle.octets.specs.Absent.{present};
 ghost use Rattle.face.specs.Fields.{count as count_of, levels as levels-of, height as height-of, gamma as gamma-of, write_white, beta as beta-of, name as name_of, setwidth as setwidth-of, box_width, prior as prior-of, columns_start, column_start, columns_there, level_start, template_start};
 ghost use Rattle.face.specs.Laid.{FaceLaid};
 ghost use Rattle.face.specs.Verdict.{face_verdict};
 
 mod checks;
 
-use bytes::{byte_at, i16_at, u16_at};
 pub use checks::check;
 use checks::{column_start, columns_before, level_start, template_start, word_start};
+use octets::{byte_at, i16_at, u16_at};
 
 // A face that was checked.
 #[derive(Clone, Copy)]

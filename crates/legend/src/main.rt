@@ -1,4 +1,6 @@
 // Reads face.bin and line.pbm in the current folder and prints the listing of the line, or the refusal.
+#![tactic(auto)]
+
 use listing::{list_files, print_answer};
 
 fn main(rt: HostRuntime) -> anyhow::Result<()> {

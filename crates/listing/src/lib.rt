@@ -1,4 +1,6 @@
 // From the files of a face and a photograph to what is listed of them.
+#![tactic(auto)]
+
 mod files;
 mod line;
 mod print;

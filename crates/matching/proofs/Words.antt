@@ -7,8 +7,8 @@ use lib.Pow.{high, low, field, mod-mod-pow}
 use Rattle.std.proofs.lemmas.Nat.{and_le_l, shr-shr, shr_below, mod_below}
 use Rattle.std.proofs.lemmas.Bool.{cases_lt}
 use Rattle.matching.specs.Counts.{sum, count_of, one_if}
-use Rattle.bytes.specs.Bits.{has_bit}
-use Rattle.bytes.proofs.Bits.{and_bit}
+use Rattle.octets.specs.Bits.{has_bit}
+use Rattle.octets.proofs.Bits.{and_bit}
 use Rattle.matching.specs.Words.{word_of}
 use Rattle.matching.proofs.Sums.{sum_same, sum_split}
 

@@ -1,6 +1,6 @@
 -- The scores of a template printed on an image. Assumes nothing.
 use Rattle.std.specs.Prelude.{ℕ, ◌+◌, ◌-◌, Bool, ◌&&◌, List, ℤ, pos, ◌+ℤ◌, ◌*ℤ◌, neg_ℤ}
-use Rattle.bytes.specs.Bits.{has_bit}
+use Rattle.octets.specs.Bits.{has_bit}
 use Rattle.face.specs.Fields.{count, levels, height, gamma, beta, setwidth, box_width, prior, columns_before}
 use Rattle.face.specs.Laid.{column_word}
 use Rattle.scorer.specs.Meaning.{Meaning}

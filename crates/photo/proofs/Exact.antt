@@ -3,9 +3,9 @@ use Rattle.std.proofs.Common.{◌≡◌, ℕ, ◌+◌, ◌-◌, ◌*◌, ◌<◌
 use Rattle.std.proofs.lemmas.List.{append_assoc, length-append, length-drop, length-take, drop_more, get_or_at}
 use Rattle.std.proofs.lemmas.Bool.{and_parts, and_from, eqb-true, eq-eqb, false≢true}
 use Rattle.std.specs.List.{between, AllByRecursion as All}
-use Rattle.bytes.specs.Numbers.{byte_at}
-use Rattle.bytes.specs.Ranges.{from_to}
-use Rattle.bytes.proofs.Ranges.{decides_from_to}
+use Rattle.octets.specs.Numbers.{byte_at}
+use Rattle.octets.specs.Ranges.{from_to}
+use Rattle.octets.proofs.Ranges.{decides_from_to}
 use Rattle.refusal.specs.declared.Refusal.{Refusal}
 use Rattle.refusal.specs.declared.Refusal.TheVariants.{PhotographKind, PhotographMeasure, PhotographRaster}
 use Rattle.refusal.proofs.First.{after_elim, after_ensure, after_ok, after_met}

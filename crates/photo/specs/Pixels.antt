@@ -1,7 +1,7 @@
 -- The pixels of a photograph: rows from the top, in each byte the highest bit leftmost. Assumes nothing.
 use Rattle.std.specs.Prelude.{◌≡◌, ℕ, ◌+◌, ◌-◌, ◌*◌, ◌/◌, ◌%◌, ◌^◌, ◌<◌, Bool, ◌&&◌, List, nat_lt}
-use Rattle.bytes.specs.Bits.{has_bit}
-use Rattle.bytes.specs.Numbers.{byte_at}
+use Rattle.octets.specs.Bits.{has_bit}
+use Rattle.octets.specs.Numbers.{byte_at}
 use Rattle.photo.specs.declared.scan.Header.{Header}
 use Rattle.photo.specs.Verdict.{stride, header_of}
 

@@ -1,7 +1,7 @@
 -- What the check of a photograph answers: its header, or the first refusal in the order of its checks. Assumes nothing.
 use Rattle.std.specs.Prelude.{ℕ, ◌+◌, ◌-◌, ◌*◌, ◌/◌, Bool, ◌&&◌, List, length, Ok, Err, Result, ◌==◌}
-use Rattle.bytes.specs.Numbers.{byte_at}
-use Rattle.bytes.specs.Ranges.{from_to}
+use Rattle.octets.specs.Numbers.{byte_at}
+use Rattle.octets.specs.Ranges.{from_to}
 use Rattle.refusal.specs.First.{ensure, after}
 use Rattle.refusal.specs.declared.Refusal.{Refusal}
 use Rattle.refusal.specs.declared.Refusal.TheVariants.{PhotographKind, PhotographMeasure, PhotographRaster}

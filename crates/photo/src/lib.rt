@@ -1,4 +1,6 @@
 // A photograph of one line, held as the bytes of its raw pbm file.
+#![tactic(auto)]
+
 ghost use Rattle.std.specs.Prelude.{◌≡◌, ℕ, ◌+◌, ◌*◌, ◌<◌, ◌≤◌, true, List, length, is_ok, Ok};
 ghost use Rattle.photo.specs.Laid.{PhotographLaid, TellsExactly};
 ghost use Rattle.photo.specs.Pixels.{black_at, PaddedAlike};
@@ -6,7 +8,7 @@ ghost use Rattle.photo.specs.Verdict.{stride, checks_verdict, photo_verdict, hea
 
 mod scan;
 
-use bytes::byte_at;
+use octets::byte_at;
 use refusal::{Refusal, ensure};
 pub use scan::Header;
 use scan::scan_header;

@@ -6,10 +6,10 @@ use lib.ListN.{get_or-eq_default}
 use Rattle.std.proofs.lemmas.Nat.{mul-add-lt}
 use Rattle.std.proofs.lemmas.List.FromFn.{length-map-range_with_len, get_or-map-range_with_len}
 use Rattle.std.proofs.lemmas.Bool.{cases_lt, ltb-true}
-use Rattle.bytes.specs.Numbers.{u32_at}
-use Rattle.bytes.proofs.Bits.{bits_below}
-use Rattle.bytes.proofs.Ranges.{decides_signed}
-use Rattle.bytes.proofs.Stretches.{u32_between}
+use Rattle.octets.specs.Numbers.{u32_at}
+use Rattle.octets.proofs.Bits.{bits_below}
+use Rattle.octets.proofs.Ranges.{decides_signed}
+use Rattle.octets.proofs.Stretches.{u32_between}
 use Rattle.face.specs.Fields.{count, levels, height, gamma, box_width, columns_before, column_start, word_start}
 use Rattle.face.specs.Laid.{FaceLaid, column_word}
 use Rattle.face.proofs.Columns.{column_there, columns_more, columns_mono, starts_mono}

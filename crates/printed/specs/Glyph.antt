@@ -1,7 +1,7 @@
 -- A template's box as the words of a face, over an image as the words of its columns. Assumes nothing.
 use Rattle.std.specs.Prelude.{ℕ, ◌+◌, ◌-◌, ◌*◌, ◌/◌, ◌^◌, Bool, List, length, ℤ, pos, neg_ℤ, bit_and, count_ones, slice_index, slice_index_or}
-use Rattle.bytes.specs.Numbers.{u32_at}
-use Rattle.bytes.specs.Ranges.{signed_from_to}
+use Rattle.octets.specs.Numbers.{u32_at}
+use Rattle.octets.specs.Ranges.{signed_from_to}
 use Rattle.matching.specs.Column.{gain, column_value}
 use Rattle.matching.specs.Counts.{sum, sum_signed}
 

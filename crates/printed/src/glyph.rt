@@ -5,7 +5,7 @@ ghost use Rattle.matching.specs.Counts.{sum};
 ghost use Rattle.printed.specs.Glyph.{weight, light, glyph_word, ink, column_gain, gain_at, ink_value};
 
 use super::values::{Level, earned};
-use bytes::u32_at;
+use octets::u32_at;
 
 // The words of a box, one for each level of a column, and what a pixel of each level earns over black.
 #[derive(Clone, Copy)]

@@ -1,4 +1,6 @@
 // The printed scorer: the templates of a face, laid over the columns of a photograph.
+#![tactic(auto)]
+
 mod best;
 mod glyph;
 mod image;

@@ -1,7 +1,7 @@
 // The scorer of a face and a photograph.
 ghost use Rattle.std.specs.Prelude.{◌≡◌, ◌+◌, ◌*◌, ◌<◌, ◌≤◌, map, length, IfSome, nat_lt};
 ghost use Rattle.std.specs.List.{range_with_len};
-ghost use Rattle.bytes.specs.Absent.{present};
+ghost use Rattle.octets.specs.Absent.{present};
 ghost use Rattle.face.specs.Fields.{count, columns_before};
 ghost use Rattle.matching.proofs.Lawful.{shift_within};
 ghost use Rattle.matching.proofs.Ranges.{Within};

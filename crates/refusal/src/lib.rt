@@ -1,4 +1,6 @@
 // Every refusal of the decoder: what went wrong, with its number, its place and, for two of them, the template.
+#![tactic(auto)]
+
 ghost use Rattle.std.specs.Prelude.{◌≡◌};
 ghost use Rattle.refusal.specs.declared.Refusal.TheVariants.{OutOfMemory};
 ghost use Rattle.refusal.specs.First.{ensure as ensured};

@@ -1,6 +1,6 @@
 -- What a scorer stands for, and what its questions answer. Assumes nothing.
 use Rattle.std.specs.Prelude.{◌≡◌, ℕ, ◌+◌, ◌<◌, ◌≤◌, Bool, true, ◌&&◌, ℤ, pos, neg_ℤ, ◌≤ℤ◌, Option, nat_le, nat_lt}
-use Rattle.bytes.specs.Absent.{present}
+use Rattle.octets.specs.Absent.{present}
 
 -- one line: its columns, its templates with their setwidths, and two scores by column and template
 pub record Meaning : Type 0 where

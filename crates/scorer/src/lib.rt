@@ -1,4 +1,6 @@
 // What a scorer tells of one line: the meaning on which everything above rests, and windows over it.
+#![tactic(auto)]
+
 ghost use Rattle.std.specs.Prelude.{◌≡◌, ℕ, ℤ};
 ghost use Rattle.scorer.specs.Meaning.{Meaning, Lawful, setwidth_answer, at_node, ShiftWithin};
 

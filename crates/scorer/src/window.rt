@@ -1,6 +1,6 @@
 // A window: some columns of a line, from a first one on, as a line of their own.
 ghost use Rattle.std.specs.Prelude.{◌≡◌, Ok};
-ghost use Rattle.bytes.specs.Absent.{present};
+ghost use Rattle.octets.specs.Absent.{present};
 ghost use Rattle.scorer.specs.Meaning.{is_node};
 ghost use Rattle.scorer.specs.Window.{window_fits, window_verdict, windowed, window_meaning, column_below, shifts_below};
 ghost use Rattle.scorer.specs.WindowLaw.{window_lawful};

@@ -1,4 +1,6 @@
 // Tests of the scorers: what a printed scorer answers, and what a window and a lent scorer answer over it and over a sheet.
+#![tactic(auto)]
+
 #[cfg(test)]
 mod asking;
 #[cfg(test)]

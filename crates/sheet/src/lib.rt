@@ -1,6 +1,8 @@
 // A sheet: the scorer whose every score was written down beforehand, held as the bytes of its file.
+#![tactic(auto)]
+
 ghost use Rattle.std.specs.Prelude.{◌≡◌, ◌*◌, ◌^◌, ◌<◌, ◌≤◌, true, IfSome, is_ok, Ok};
-ghost use Rattle.bytes.specs.Absent.{present};
+ghost use Rattle.octets.specs.Absent.{present};
 ghost use Rattle.scorer.specs.Meaning.{is_node};
 ghost use Rattle.sheet_file.specs.Fields.{width as width_of, count as count_of, node_entry, entry_start};
 ghost use Rattle.sheet_file.specs.Laid.{SheetLaid};
@@ -8,7 +10,7 @@ ghost use Rattle.sheet_file.specs.Meaning.{sheet_meaning};
 ghost use Rattle.sheet_file.specs.Verdict.{sheet_verdict};
 ghost use Rattle.sheet_file.proofs.Lawful.{sheet_lawful};
 
-use bytes::{byte_at, i32_at, u16_at};
+use octets::{byte_at, i32_at, u16_at};
 use scorer::Scorer;
 
 // A sheet that was checked.

@@ -3,7 +3,7 @@ use Rattle.std.proofs.Common.{◌≡◌, ℕ, ◌+◌, ◌/◌, ◌%◌, ◌<◌
 use Rattle.std.proofs.lemmas.Nat.{div-add-mod', div-mul-add, mod-mul-add, div_below, mul-add-lt}
 use Rattle.std.proofs.lemmas.Bool.{false≢true}
 use Rattle.std.proofs.lemmas.Bool.Decides.{Decides-and, Decides-eqb}
-use Rattle.bytes.proofs.Ranges.{decides_leb, decides_le_z, decides_from_to, decides_signed}
+use Rattle.octets.proofs.Ranges.{decides_leb, decides_le_z, decides_from_to, decides_signed}
 use Rattle.refusal.specs.First.{Verdict, Exactly}
 use Rattle.refusal.proofs.First.{exactly_ensure, exactly_each, exactly_none, exactly_more, exactly_given, exactly_like}
 use Rattle.refusal.specs.declared.Refusal.TheVariants.{SheetTruncated, SheetHead}

@@ -1,6 +1,6 @@
 -- Where a sheet's bytes hold what. Assumes nothing.
 use Rattle.std.specs.Prelude.{ℕ, ◌+◌, ◌*◌, List, ℤ}
-use Rattle.bytes.specs.Numbers.{byte_at, u16_at, i32_at}
+use Rattle.octets.specs.Numbers.{byte_at, u16_at, i32_at}
 
 -- the head: how many columns and templates
 abbrev pub width : List ℕ → ℕ

@@ -1,6 +1,6 @@
 -- What the check of a sheet answers: the first refusal in the order of its checks. Assumes nothing.
 use Rattle.std.specs.Prelude.{ℕ, ◌+◌, ◌/◌, ◌%◌, ◌≤◌, Bool, not, ◌&&◌, ◌||◌, List, [], ◌∷◌, length, ℤ, ◌==◌, int_le, nat_le}
-use Rattle.bytes.specs.Ranges.{from_to, signed_from_to}
+use Rattle.octets.specs.Ranges.{from_to, signed_from_to}
 use Rattle.refusal.specs.declared.Refusal.TheVariants.{SheetTruncated, SheetHead, SheetLength, SheetSetwidth, SheetScore, SheetOrder}
 use Rattle.refusal.specs.First.{Verdict, ensure, ensure_each, first_refusal}
 use Rattle.scorer.specs.Meaning.{least_score, greatest_score}

@@ -1,11 +1,13 @@
 // The file of a sheet: a line's setwidths and scores, written down beforehand. Its checks, in their order.
+#![tactic(auto)]
+
 ghost use Rattle.std.specs.Prelude.{◌≡◌, ℕ, ◌/◌, ◌^◌, ◌<◌, ◌≤◌, Bool, OnOk};
 ghost use Rattle.refusal.specs.First.{first_failing, IsFirst, Exactly};
 ghost use Rattle.sheet_file.specs.Fields.{entries, entry_start};
 ghost use Rattle.sheet_file.specs.Laid.{SheetLaid};
 ghost use Rattle.sheet_file.specs.Verdict.{Headed, head_verdict, length_verdict, setwidth_lawful, setwidths_verdict, entry_node, score_within, scores_within, scores_ordered, score_lawful, scores_verdict, order_lawful, orders_verdict, checks_verdict, sheet_verdict};
 
-use bytes::{byte_at, i32_at, u16_at};
+use octets::{byte_at, i32_at, u16_at};
 use refusal::{Refusal, ensure};
 
 // Whether the head is there, and both its numbers are in range.

@@ -1,4 +1,6 @@
 // Tests of the sheet: what its check refuses and where, what is still lawful, and what it answers.
+#![tactic(auto)]
+
 #[cfg(test)]
 mod answers;
 #[cfg(test)]

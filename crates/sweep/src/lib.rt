@@ -1,4 +1,6 @@
 // The sweep: one text for whatever is combined along the paths of a line.
+#![tactic(auto)]
+
 mod combining;
 mod places;
 mod sweeping;

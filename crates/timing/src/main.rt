@@ -1,5 +1,7 @@
 // Asks the printed scorer every bound and every exact score of a large line. Prints their sums, and what one question took
 // to the error output.
+#![tactic(auto)]
+
 mod made;
 
 use anyhow::anyhow;

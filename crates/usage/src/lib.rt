@@ -1,5 +1,7 @@
 // The parts in use, in the order that the borrow check allows. The edits in .ci/borrow each turn one
 // use wrong, and the check must refuse it.
+#![tactic(auto)]
+
 ghost use Rattle.std.specs.Prelude.{◌≡◌, is_ok, if◌then◌else◌, Ok, slice_set};
 ghost use Rattle.photo.specs.Pixels.{black_at};
 ghost use Rattle.photo.specs.Verdict.{photo_verdict};

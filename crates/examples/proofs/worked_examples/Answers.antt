@@ -1,5 +1,5 @@
 use Rattle.std.proofs.Common.{refl}
-use Rattle.bytes.specs.Numbers.{byte_at, u16_at, u32_at}
+use Rattle.octets.specs.Numbers.{byte_at, u16_at, u32_at}
 use Rattle.face.specs.Fields.{columns_before}
 use Rattle.face.specs.Verdict.{face_verdict}
 use Rattle.matching.specs.Column.{column_value}

@@ -1,5 +1,5 @@
 use Rattle.std.proofs.Common.{◌≡◌, ◌+◌, ◌*◌, ap, ◌∙◌, arith}
-use Rattle.bytes.specs.Numbers.{byte_at}
+use Rattle.octets.specs.Numbers.{byte_at}
 use Rattle.face.specs.Fields.{levels, box_width, columns_start, word_start}
 use Rattle.face.proofs.Columns.{columns_end, columns_within}
 use Rattle.face.proofs.stretch_of.Goals as goal

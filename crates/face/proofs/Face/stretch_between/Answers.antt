@@ -1,6 +1,6 @@
 use Rattle.std.proofs.Common.{◌<◌, ◌≤◌, leb, length, arith}
 use Rattle.std.proofs.lemmas.Bool.{and_from, and_left, and_right, le-leb, lt-leb}
-use Rattle.bytes.proofs.Absent.{absent, there_is}
+use Rattle.octets.proofs.Absent.{absent, there_is}
 use Rattle.face.specs.Fields.{column_start}
 use Rattle.face.proofs.Columns.{starts_mono, starts_over}
 use Rattle.face.proofs.Face.stretch_between.Goals as goal

@@ -1,5 +1,5 @@
 use Rattle.std.proofs.Common.{◌≡◌, ◌+◌, refl, ap, ◌∙◌, add-one, arith}
-use Rattle.bytes.specs.Numbers.{byte_at}
+use Rattle.octets.specs.Numbers.{byte_at}
 use Rattle.face.specs.Fields.{columns_before, box_width}
 use Rattle.face.proofs.checks.columns_before.Goals as goal
 

@@ -2,7 +2,7 @@ use Rattle.std.proofs.Common.{◌≡◌, ℕ, ◌+◌, ◌≤◌, true, leb, Lis
 use Rattle.std.proofs.lemmas.Bool.{and_from, le-leb}
 use Rattle.std.specs.Option.{option_map}
 use Rattle.std.specs.List.{between}
-use Rattle.bytes.specs.Absent.{present}
+use Rattle.octets.specs.Absent.{present}
 use Rattle.face.specs.Fields.{box_width, columns_before, column_start, columns_there}
 use Rattle.face.proofs.Columns.{starts_over}
 use Rattle.printed.specs.Glyph.{light, weight}

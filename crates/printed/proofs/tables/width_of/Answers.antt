@@ -1,6 +1,6 @@
 use Rattle.std.proofs.Common.{◌≡◌, unwrap_or, ap, ◌∙◌, arith}
 use Rattle.std.proofs.lemmas.Bool.{lt-ltb}
-use Rattle.bytes.proofs.Absent.{value_there}
+use Rattle.octets.proofs.Absent.{value_there}
 use Rattle.face.specs.Fields.{count, box_width}
 use Rattle.printed.proofs.tables.width_of.Goals as goal
 

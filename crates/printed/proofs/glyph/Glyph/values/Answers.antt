@@ -2,7 +2,7 @@ use Rattle.std.proofs.Common.{ℕ, ◌-◌, ◌*◌, ◌^◌, ◌≤◌, length,
 use lib.ListN.{get_or-replicate}
 use Rattle.std.proofs.lemmas.Bool.{leb-true}
 use Rattle.std.proofs.lemmas.Int.{ints, to_z-of_z}
-use Rattle.bytes.proofs.Ranges.{decides_signed}
+use Rattle.octets.proofs.Ranges.{decides_signed}
 use Rattle.matching.specs.Column.{column_value}
 use Rattle.matching.specs.Counts.{sum}
 use Rattle.matching.proofs.Ranges.{Within, within_more}

@@ -1,7 +1,7 @@
 use Rattle.std.proofs.Common.{◌<◌, length, get_or, pos, ap, ◌∙◌, arith}
 use Rattle.std.proofs.lemmas.List.FromFn.{length-map-range_with_len, get_or-map-range_with_len}
 use Rattle.std.proofs.lemmas.Bool.{lt-ltb, le-ltb}
-use Rattle.bytes.proofs.Absent.{absent, there_is}
+use Rattle.octets.proofs.Absent.{absent, there_is}
 use Rattle.face.specs.Fields.{count}
 use Rattle.printed.specs.declared.tables.Template.{Template}
 use Rattle.printed.specs.Tabulated.{template_of}

@@ -1,7 +1,7 @@
 use Rattle.std.proofs.Common.{sym, refl, arith}
 use Rattle.std.proofs.lemmas.List.{get_or_past}
-use Rattle.bytes.specs.Numbers.{byte_at}
-use Rattle.bytes.proofs.one_byte.Goals as goal
+use Rattle.octets.specs.Numbers.{byte_at}
+use Rattle.octets.proofs.one_byte.Goals as goal
 
 pub returns-then-at-bytes : goal.returns-then-at-bytes
 unfolding byte_at

@@ -4,7 +4,7 @@ use native.Mathlib.Nat.{div-eq_of_lt, div-eq_of_lt-le, two-pow-succ}
 use lib.Bits.{bit_and}
 use Rattle.std.proofs.lemmas.Nat.{pow_pos, and_shr, and_mod, and_le_l, and_le_r, leading_top, mod_below}
 use Rattle.std.proofs.lemmas.Bool.{cases_lt, cases_eq, lt-ltb, ltb-true, eqb-true, eq-eqb}
-use Rattle.bytes.specs.Bits.{Bit}
+use Rattle.octets.specs.Bits.{Bit}
 
 below_power : (n : ℕ) → n < 2 ^ n
 below_power zero = omega arith

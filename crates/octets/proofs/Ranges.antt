@@ -4,7 +4,7 @@ use lib.Signed.{le_z}
 use Rattle.std.proofs.lemmas.Int.{ints}
 use Rattle.std.proofs.lemmas.Bool.{leb-true, le-leb}
 use Rattle.std.proofs.lemmas.Bool.Decides.{Decides-and}
-use Rattle.bytes.specs.Ranges.{from_to, signed_from_to}
+use Rattle.octets.specs.Ranges.{from_to, signed_from_to}
 
 pub decides_leb : (a b : ℕ) → Decides (leb a b) (a ≤ b)
 decides_leb a b = (leb-true a b, le-leb a b)

@@ -1,7 +1,9 @@
 // Numbers as the files hold them: low byte first, signed ones in two's complement.
+#![tactic(auto)]
+
 ghost use Rattle.std.specs.Prelude.{◌≡◌};
 ghost use Rattle.std.specs.Option.{unwrap_or};
-ghost use Rattle.bytes.specs.Numbers.{byte_at, u16_at, u32_at, i16_at, i32_at};
+ghost use Rattle.octets.specs.Numbers.{byte_at, u16_at, u32_at, i16_at, i32_at};
 
 // The byte at `at`, or 0 past the end.
 pub fn byte_at(bytes: &[u8], at: usize) -> u8

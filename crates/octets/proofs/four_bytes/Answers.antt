@@ -1,7 +1,7 @@
 use Rattle.std.proofs.Common.{arith}
 use Rattle.std.proofs.lemmas.Bool.Decides.{nat_tests}
-use Rattle.bytes.specs.Numbers.{u32_at}
-use Rattle.bytes.proofs.four_bytes.Goals as goal
+use Rattle.octets.specs.Numbers.{u32_at}
+use Rattle.octets.proofs.four_bytes.Goals as goal
 
 pub returns-then-bytes-at-ge4 : goal.returns-then-bytes-at-ge4
 unfolding u32_at

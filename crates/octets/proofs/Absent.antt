@@ -1,6 +1,6 @@
 -- An answer that is there, and one that is absent. Assumes nothing.
 use Rattle.std.proofs.Common.{◌≡◌, Bool, true, false, Some, None, unwrap_or, sym, ap, ◌∙◌}
-use Rattle.bytes.specs.Absent.{present}
+use Rattle.octets.specs.Absent.{present}
 
 pub absent : {X : Type 0} {there : Bool} (x : X) → there ≡ false → None ≡ present there x
 absent x e = sym (ap (λ b. present b x) e)

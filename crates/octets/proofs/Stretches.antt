@@ -3,7 +3,7 @@ use Rattle.std.proofs.Common.{◌≡◌, ℕ, ◌+◌, ◌-◌, ◌*◌, ◌<◌
 use Rattle.std.proofs.lemmas.List.Edits.{length-between, get_or-between}
 use Rattle.std.proofs.lemmas.Bool.{le-leb}
 use Rattle.std.specs.List.{between}
-use Rattle.bytes.specs.Numbers.{u32_at}
+use Rattle.octets.specs.Numbers.{u32_at}
 
 module _ (bytes : List ℕ) (a b i : ℕ) (fits : a + i + 4 ≤ b) (inside : b ≤ length bytes) where
   byte_in : (k j : ℕ) → k < 4 → i + k ≡ j → get_or (between a b bytes) j 0 ≡ get_or bytes (a + i + k) 0

@@ -1,7 +1,7 @@
 use Rattle.std.proofs.Common.{arith}
 use Rattle.std.proofs.lemmas.Bool.Decides.{nat_tests}
-use Rattle.bytes.specs.Numbers.{u16_at}
-use Rattle.bytes.proofs.two_bytes.Goals as goal
+use Rattle.octets.specs.Numbers.{u16_at}
+use Rattle.octets.proofs.two_bytes.Goals as goal
 
 pub returns-then-bytes-at-ge2 : goal.returns-then-bytes-at-ge2
 unfolding u16_at
