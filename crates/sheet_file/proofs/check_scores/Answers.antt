@@ -5,16 +5,16 @@ use Rattle.sheet_file.specs.Fields.{entries, entry_start}
 use Rattle.sheet_file.specs.Verdict.{score_lawful}
 use Rattle.sheet_file.proofs.check_scores.Goals as goal
 
-pub returns-then-not-score-lawful : goal.returns-then-not-score-lawful
-returns-then-not-score-lawful c =
+pub returns-then-not-score_lawful : goal.returns-then-not-score_lawful
+returns-then-not-score_lawful c =
     let b = c.args.bytes.now in
     ap (λ p. Err (SheetScore p)) c.entry_start.ensures.value ∙ refuse_some (λ j. SheetScore (entry_start b j)) c.loop-j.j
-    (sofar_stop (entries b) (score_lawful b) c.loop-j.j c.loop-j.invariant (omega arith) c.if-not-score-lawful.ensures)
+    (sofar_stop (entries b) (score_lawful b) c.loop-j.j c.loop-j.invariant (omega arith) c.if-not-score_lawful.ensures)
 
 pub loop-j-preserved : goal.loop-j-preserved
 loop-j-preserved c =
     let b = c.args.bytes.now in
-    sofar_more (entries b) (score_lawful b) c.loop-j.j c.loop-j.invariant (omega arith) c.if-not-score-lawful.ensures
+    sofar_more (entries b) (score_lawful b) c.loop-j.j c.loop-j.invariant (omega arith) c.if-not-score_lawful.ensures
 
 pub returns : goal.returns
 returns c =

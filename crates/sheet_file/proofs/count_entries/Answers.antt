@@ -8,11 +8,11 @@ small c =
     let narrow : c.from-2.result ≤ 2048 = omega arith in
     mul-le _ _ 64 2048 few narrow
 
-pub overflow-mul-result : goal.overflow-mul-result
-overflow-mul-result c = omega (arith, small c)
+pub overflow_mul-result : goal.overflow_mul-result
+overflow_mul-result c = omega (arith, small c)
 
 pub returns : goal.returns
 returns c = record {
-  value = λ i. ((c.from.ensures ∙ c.u16_at.ensures) i) * ((c.from-2.ensures ∙ c.u16-at-2.ensures) i);
+  value = λ i. ((c.from.ensures ∙ c.u16_at.ensures) i) * ((c.from-2.ensures ∙ c.u16_at-2.ensures) i);
   bound = omega (arith, small c);
 }

@@ -19,11 +19,11 @@ returns-then-first-end c =
           record { value = absent _ (and_right (leb first end) _ (lt-leb (column_start b end) (length b) past)); within = tt }
     ]
 
-pub column-start-requires : goal.column-start-requires
-column-start-requires c = omega (arith, c.laid.ensures.sized.1)
+pub column_start-requires : goal.column_start-requires
+column_start-requires c = omega (arith, c.laid.ensures.sized.1)
 
-pub column-start-requires-2 : goal.column-start-requires-2
-column-start-requires-2 c = omega (arith, c.laid.ensures.sized.1)
+pub column_start-requires-2 : goal.column_start-requires-2
+column_start-requires-2 c = omega (arith, c.laid.ensures.sized.1)
 
 pub returns-then-stretch-self : goal.returns-then-stretch-self
 returns-then-stretch-self c =
@@ -32,7 +32,7 @@ returns-then-stretch-self c =
     let end = c.args.end in
     let ordered : first ≤ end = omega arith in
     let from = c.column_start.ensures in
-    let to = c.column-start-2.ensures in
+    let to = c.column_start-2.ensures in
     let inside : column_start b end ≤ length b = omega arith in
     record {
       value = there_is _ _ (and_from (leb first end) (leb (column_start b end) (length b)) (le-leb first end ordered) (le-leb (column_start b end) (length b) inside)) (λ i. record { start = from i; end = to i });

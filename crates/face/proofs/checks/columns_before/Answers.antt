@@ -12,5 +12,5 @@ unfolding columns_before
 loop-i-preserved c =
     let b = c.args.bytes.now in
     let next : columns_before b (c.loop-i.i + 1) ≡ columns_before b c.loop-i.i + box_width b c.loop-i.i = rw add-one refl in
-    let same : c.byte-at.result ≡ box_width b c.loop-i.i = c.byte-at.ensures ∙ ap (λ p. byte_at b (p + 2)) c.template_start.ensures.value in
+    let same : c.byte_at.result ≡ box_width b c.loop-i.i = c.byte_at.ensures ∙ ap (λ p. byte_at b (p + 2)) c.template_start.ensures.value in
     (omega arith, omega arith)

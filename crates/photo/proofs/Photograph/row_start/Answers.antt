@@ -10,8 +10,8 @@ small c =
     let all : p.rows * stride p.width ≡ p.rows * stride _ = ap (λ w. p.rows * stride w) p.wide in
     omega (arith, p.begins, all, c.laid.ensures.size, c.laid.ensures.whole, c.laid.ensures.begins, mul-le c.args.y (stride p.width) p.rows (stride p.width) few (omega arith))
 
-pub overflow-add-result-2 : goal.overflow-add-result-2
-overflow-add-result-2 c = omega (arith, small c)
+pub overflow_add-result-2 : goal.overflow_add-result-2
+overflow_add-result-2 c = omega (arith, small c)
 
 pub returns : goal.returns
 returns c = record { value = refl; bound = small c }

@@ -8,11 +8,11 @@ pub loop-d-init : goal.loop-d-init
 unfolding decimal
 loop-d-init c = refl
 
-pub overflow-mul-value : goal.overflow-mul-value
-overflow-mul-value c = omega (arith, decimal_small c.args.digits.now c.loop-d.d-index c.requires.0 c.requires.1)
+pub overflow_mul-value : goal.overflow_mul-value
+overflow_mul-value c = omega (arith, decimal_small c.args.digits.now c.loop-d.d-index c.requires.0 c.requires.1)
 
-pub overflow-add-value : goal.overflow-add-value
-overflow-add-value c = omega (arith, decimal_small c.args.digits.now c.loop-d.d-index c.requires.0 c.requires.1)
+pub overflow_add-value : goal.overflow_add-value
+overflow_add-value c = omega (arith, decimal_small c.args.digits.now c.loop-d.d-index c.requires.0 c.requires.1)
 
 pub loop-d-preserved : goal.loop-d-preserved
 loop-d-preserved c = omega (arith, decimal_more c.args.digits.now c.loop-d.d-index (omega arith))

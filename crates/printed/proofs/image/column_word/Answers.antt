@@ -9,8 +9,8 @@ pub loop-y-init : goal.loop-y-init
 unfolding word_of
 loop-y-init c = refl
 
-pub with-row-word-requires : goal.with-row-word-requires
-with-row-word-requires c =
+pub with_row-word-requires : goal.with_row-word-requires
+with_row-word-requires c =
     let photo = c.args.photo.now in
     (omega arith, omega (arith, word_below c.loop-y.y (black_at photo.bytes.now photo.rows c.args.x)))
 
@@ -19,4 +19,4 @@ loop-y-preserved c =
     let photo = c.args.photo.now in
     let y = c.loop-y.y in
     let p = black_at photo.bytes.now photo.rows c.args.x in
-    c.with-row-word.ensures ∙ (λ i. one_if (c.black.ensures.value i) * 2 ^ y + c.loop-y.invariant i) ∙ sym (word_more y p)
+    c.with_row-word.ensures ∙ (λ i. one_if (c.black.ensures.value i) * 2 ^ y + c.loop-y.invariant i) ∙ sym (word_more y p)

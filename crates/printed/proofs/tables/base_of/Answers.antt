@@ -10,8 +10,8 @@ use Rattle.printed.proofs.tables.base_of.Goals as goal
 pub loop-l-init : goal.loop-l-init
 unfolding sum_signed
 loop-l-init c =
-    let r = c.prior-of-base.ensures in
-    handed 10000 c.prior-of-base.result _ (r.value ∙ omega (arith, ints)) r.range (omega arith)
+    let r = c.prior_of-base.ensures in
+    handed 10000 c.prior_of-base.result _ (r.value ∙ omega (arith, ints)) r.range (omega arith)
 
 pub loop-l-preserved : goal.loop-l-preserved
 loop-l-preserved c =
@@ -19,7 +19,7 @@ loop-l-preserved c =
     let t = c.args.t in
     let l = c.loop-l.l in
     let inv = c.loop-l.invariant in
-    let here = c.level-worth-base.ensures in
+    let here = c.level_worth-base.ensures in
     let more = sum_signed_onto (prior face t) l (λ k. beta face k *ℤ pos (pixels face t k)) in
     added (10000 + 2 ^ 26 * l) (2 ^ 26) (10000 + 2 ^ 26 * (l + 1)) _ _ _ _ _ inv.0 here.value more inv.1 here.range (omega arith) (omega (arith, c.levels-l-end.ensures.within.1))
 

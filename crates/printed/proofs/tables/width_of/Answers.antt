@@ -9,5 +9,5 @@ returns c =
     let face = c.args.face.now.bytes.now in
     let t = c.args.t in
     let value : c.from.result ≡ box_width face t =
-    c.from.ensures ∙ c.unwrap-or.ensures ∙ ap (λ o. unwrap_or o 0) c.box_width.ensures ∙ value_there (box_width face t) 0 (lt-ltb t (count face) c.requires) in
+    c.from.ensures ∙ c.unwrap_or.ensures ∙ ap (λ o. unwrap_or o 0) c.box_width.ensures ∙ value_there (box_width face t) 0 (lt-ltb t (count face) c.requires) in
     record { value = value; bound = omega (arith, (c.laid.ensures.templates_laid t c.requires).boxed) }

@@ -18,7 +18,7 @@ loop-t-preserved g c =
     let cells = vec_items c.args.cells.now in
     let f = brings r (widths l) (score_in l cells) (values_in g.C.Combining.held l cells) c.args.p in
     let value = c.loop-t.invariant.0 in
-    let step = c.join-in-sofar.ensures in (
+    let step = c.join_in-sofar.ensures in (
       step.value ∙ joined_next r f c.loop-t.t c.loop-t.sofar.value c.brought.result value c.brought.ensures,
       step.last ∙ changed_next r f c.loop-t.t c.loop-t.sofar.value c.brought.result value c.brought.ensures c.loop-t.sofar.last c.loop-t.invariant.1,
     )

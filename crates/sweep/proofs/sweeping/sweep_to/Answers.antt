@@ -15,6 +15,6 @@ loop-p-preserved g c =
     let l = c.args.line.now in
     let cells = vec_items c.args.cells.now in
     let enough : needed l ≤ length cells = omega (arith, enough_cells l (vec_len c.args.cells.now) c.requires.0, c.args.cells.now.ok.0) in
-    c.sweep-place.ensures
+    c.sweep_place.ensures
     ∙ ap (λ xs. swept_on C.rule C.held C.stored l xs c.loop-p.p) c.loop-p.invariant
     ∙ swept_next C.rule C.stored l cells enough C.held C.kept c.loop-p.p (omega (arith, c.requires.1))

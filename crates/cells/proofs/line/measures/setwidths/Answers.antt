@@ -9,6 +9,6 @@ loop-t-preserved g c =
     let lt : c.loop-t.t < length c.loop-t.setwidths = omega (arith, c.lawful.ensures.counted.1) in (
       below_more _ _
           (λ k h. let ne : k ≢ c.loop-t.t = omega arith in rw get_or-set_other (told k h))
-          (rw get_or-set_same c.setwidth-of.ensures),
+          (rw get_or-set_same c.setwidth_of.ensures),
       length-set _ _ _ ∙ long,
     )

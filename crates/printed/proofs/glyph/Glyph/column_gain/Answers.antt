@@ -18,5 +18,5 @@ loop-l-preserved c =
     let glyph = c.args.self.now in
     let more = sum_signed_more c.loop-l.l (λ k. weight glyph.weights.now k *ℤ pos (ones (bit_and (glyph_word glyph.words.now glyph.weights.now c.args.c k) c.args.column))) in
     let inv = c.loop-l.invariant in
-    let here = c.level-gain-gain.ensures in
+    let here = c.level_gain-gain.ensures in
     added (2 ^ 21 * c.loop-l.l) (2 ^ 21) (2 ^ 21 * (c.loop-l.l + 1)) _ _ _ _ _ inv.0 here.value (sym more) inv.1 here.range (omega arith) (omega (arith, leb-true, c.args.self.now.few))

@@ -15,7 +15,7 @@ pub loop-c-preserved : goal.loop-c-preserved
 loop-c-preserved c =
     let glyph = c.args.self.now in
     let more = sum_signed_more c.loop-c.c (λ i. column_gain glyph.words.now glyph.weights.now i (get_or c.args.columns.now (c.args.x + i) 0 / 2 ^ c.args.s)) in
-    let at = ap (λ q. column_gain glyph.words.now glyph.weights.now c.loop-c.c (q / 2 ^ c.args.s)) c.column-at.ensures in
+    let at = ap (λ q. column_gain glyph.words.now glyph.weights.now c.loop-c.c (q / 2 ^ c.args.s)) c.column_at.ensures in
     let inv = c.loop-c.invariant in
-    let here = c.column-gain-gain.ensures in
+    let here = c.column_gain-gain.ensures in
     added (2 ^ 23 * c.loop-c.c) (2 ^ 23) (2 ^ 23 * (c.loop-c.c + 1)) _ _ _ _ _ inv.0 (here.value ∙ at) (sym more) inv.1 here.range (omega arith) (omega (arith, leb-true, c.args.self.now.narrow))

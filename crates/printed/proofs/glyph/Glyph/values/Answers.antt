@@ -15,9 +15,9 @@ use Rattle.printed.proofs.glyph.Glyph.values.Goals as goal
 pub loop-l-init : goal.loop-l-init
 unfolding sum column_value
 loop-l-init c =
-    let there = c.column-ink.ensures.value in
+    let there = c.column_ink.ensures.value in
     let rows = c.args.rows in
-    (c.saturating-sub-room.ensures ∙ omega arith, omega arith, λ black h. get_or-replicate 37 black (pos 0) (pos 0) h)
+    (c.saturating_sub-room.ensures ∙ omega arith, omega arith, λ black h. get_or-replicate 37 black (pos 0) (pos 0) h)
 
 pub lay-table-requires : goal.lay-table-requires
 lay-table-requires c k h =

@@ -17,12 +17,12 @@ loop-c-init c =
     let e = c.requires.1.1 in
     handed 1034000 p.base _ (base_is face c.laid.ensures c.args.t c.requires.0 p e ∙ omega (arith, ints)) (base_small face c.laid.ensures c.args.t c.requires.0 p e) (omega arith)
 
-pub overflow-add-template : goal.overflow-add-template
-overflow-add-template c =
+pub overflow_add-template : goal.overflow_add-template
+overflow_add-template c =
     omega (arith, column_few c.args.self.now.face.bytes.now c.laid.ensures c.args.t c.requires.0 c.args.template c.requires.1.1 c.loop-c.c c.loop-c-test.true)
 
-pub value-at-bound-requires : goal.value-at-bound-requires
-value-at-bound-requires c =
+pub value_at-bound-requires : goal.value_at-bound-requires
+value_at-bound-requires c =
     column_known c.args.self.now.face.bytes.now c.laid.ensures c.args.t c.requires.0 c.args.template c.requires.1.1 c.loop-c.c c.loop-c-test.true
 
 pub loop-c-preserved : goal.loop-c-preserved
@@ -33,7 +33,7 @@ loop-c-preserved c =
     let x = c.args.x in
     let i = c.loop-c.c in
     let inv = c.loop-c.invariant in
-    let here = c.value-at-bound.ensures in
+    let here = c.value_at-bound.ensures in
     let at = ap (λ q. value_of face (q + i) (black_count face image (x + i))) (first_is face c.laid.ensures t c.requires.0 c.args.template c.requires.1.1) in
     let more = sum_signed_onto (base face t) i (λ k. value_of face (columns_before face t + k) (black_count face image (x + k))) in
     let few = width_is face c.laid.ensures t c.requires.0 c.args.template c.requires.1.1 in

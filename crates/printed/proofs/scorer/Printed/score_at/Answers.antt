@@ -5,8 +5,8 @@ use Rattle.printed.proofs.Adding.{added, handed}
 use Rattle.printed.proofs.Standing.{base_is, base_small, gained}
 use Rattle.printed.proofs.scorer.Printed.score_at.Goals as goal
 
-pub overflow-add-result : goal.overflow-add-result
-overflow-add-result c =
+pub overflow_add-result : goal.overflow_add-result
+overflow_add-result c =
     let face = c.args.self.now.face.bytes.now in
     let stands = c.requires.0 in
     let small = base_small face c.laid.ensures c.args.t stands.known c.args.template stands.is in

@@ -2,8 +2,8 @@ use Rattle.std.proofs.Common.{◌-◌, arith, w16, SFits, rules}
 use Rattle.std.proofs.lemmas.Int.{ints, to_z-of_z}
 use Rattle.printed.proofs.values.Level.with.Goals as goal
 
-pub overflow-add-result : goal.overflow-add-result
-overflow-add-result c =
+pub overflow_add-result : goal.overflow_add-result
+overflow_add-result c =
     let small = c.requires.0 (c.args.black - c.args.k) (omega arith) in
     let r = c.earned.ensures.range in
     omega (arith, ints)
