@@ -4,9 +4,9 @@ use Rattle.cells.specs.Blank.{blank}
 use Rattle.cells.specs.Layout.{cell_at}
 use Rattle.cells.proofs.layout.read.Goals as goal
 
-pub returns-in-default : goal.returns-in-default
+pub returns-in_default : goal.returns-in_default
 unfolding cell_at
-returns-in-default c = search rules
+returns-in_default c = search rules
 
 pub returns-then-i-len : goal.returns-then-i-len
 unfolding cell_at

@@ -3,9 +3,9 @@ use Rattle.std.proofs.lemmas.List.{set_past}
 use Rattle.cells.specs.Layout.{with_cell}
 use Rattle.cells.proofs.layout.write.Goals as goal
 
-pub returns-in-default : goal.returns-in-default
+pub returns-in_default : goal.returns-in_default
 unfolding with_cell
-returns-in-default c = search rules
+returns-in_default c = search rules
 
 pub returns-then-i-len : goal.returns-then-i-len
 unfolding with_cell

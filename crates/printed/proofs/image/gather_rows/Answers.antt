@@ -14,6 +14,6 @@ loop-x-preserved c =
     let x = c.loop-x.x in
     let inv = c.loop-x.invariant in
     let word : c.column_word-word.result ≡ word_of rows (image x) = c.column_word-word.ensures in (
-      pushed (λ k. word_of rows (image k)) x _ _ _ c.in-ok-push.ensures.items inv.0 word,
-      pushed (λ k. count_of rows (image k)) x _ _ _ c.in-ok-push-2.ensures.items inv.1 (c.ones_in.ensures.value ∙ ap ones word ∙ word_ones rows (image x)),
+      pushed (λ k. word_of rows (image k)) x _ _ _ c.in_ok-push.ensures.items inv.0 word,
+      pushed (λ k. count_of rows (image k)) x _ _ _ c.in_ok-push-2.ensures.items inv.1 (c.ones_in.ensures.value ∙ ap ones word ∙ word_ones rows (image x)),
     )

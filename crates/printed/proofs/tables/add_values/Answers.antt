@@ -18,7 +18,7 @@ loop-c-preserved c =
     values_like face _ _ e
     (row_added face (columns_before face t + i) _ _ _ c.loop-c.invariant size
     (λ k h. c.values.ensures k h ∙ values_are face c.laid.ensures t c.requires.0 glyph.words.now glyph.weights.now glyph.width _ c.requires.1.0 high i c.loop-c-test.true k)
-    c.in-ok-extend_from_slice.ensures.items)
+    c.in_ok-extend_from_slice.ensures.items)
 
 pub returns : goal.returns
 returns c =

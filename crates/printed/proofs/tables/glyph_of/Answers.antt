@@ -19,18 +19,17 @@ overflow_add-first c =
     let over = starts_over face (columns_before face t + box_width face t) c.laid.ensures.levelled.0 in
     omega (arith, c.requires.1.1, c.laid.ensures.sized.1, c.width_of-width.ensures.value)
 
-pub invariant-of-result : goal.invariant-of-result
-invariant-of-result c =
+pub invariant_of-result : goal.invariant_of-result
+invariant_of-result c =
     let face = c.args.face.now.bytes.now in
     let ws = c.args.weights.now in
     let same : ws ≡ weights_of face = c.requires.1.0 in
-    let few : length ws ≤ 4 = omega (arith, ap length same, weights_length face, c.laid.ensures.levelled.1) in (
-      le-leb (length ws) 4 few,
-      (
-        le-leb c.width_of-width.result 32 c.width_of-width.ensures.bound,
-        (λ l. ap (λ q. light (weight q l)) same ∙ weights_light face c.laid.ensures l, tt),
-      ),
-    )
+    let few : length ws ≤ 4 = omega (arith, ap length same, weights_length face, c.laid.ensures.levelled.1) in
+    record {
+      few = le-leb (length ws) 4 few;
+      narrow = le-leb c.width_of-width.result 32 c.width_of-width.ensures.bound;
+      light = λ l. ap (λ q. light (weight q l)) same ∙ weights_light face c.laid.ensures l;
+    }
 
 pub returns : goal.returns
 returns c =

@@ -7,7 +7,7 @@ use Rattle.printed.proofs.tables.list_templates.Goals as goal
 
 pub loop-t-init : goal.loop-t-init
 unfolding columns_before
-loop-t-init c = (c.in-ok-templates.ensures.items, refl)
+loop-t-init c = (c.in_ok-templates.ensures.items, refl)
 
 pub overflow_add-first : goal.overflow_add-first
 overflow_add-first c =
@@ -20,6 +20,6 @@ pub loop-t-preserved : goal.loop-t-preserved
 loop-t-preserved c =
     let face = c.args.face.now.bytes.now in
     let t = c.loop-t.t in (
-      pushed (template_of face) t _ _ _ c.in-ok-push.ensures.items c.loop-t.invariant.0 c.template_at-template.ensures,
+      pushed (template_of face) t _ _ _ c.in_ok-push.ensures.items c.loop-t.invariant.0 c.template_at-template.ensures,
       omega (arith, c.loop-t.invariant.1, ap (λ r. r.width) c.template_at-template.ensures, columns_more face t),
     )

@@ -12,4 +12,4 @@ pub loop-t-preserved : goal.loop-t-preserved
 loop-t-preserved c =
     let face = c.args.face.now.bytes.now in
     let t = c.loop-t.t in
-    (c.in-ok-add_values.ensures, omega (arith, c.loop-t.invariant.1, c.glyph_of-glyph.ensures.width_is, columns_more face t))
+    (c.in_ok-add_values.ensures, omega (arith, c.loop-t.invariant.1, c.glyph_of-glyph.ensures.width_is, columns_more face t))
