@@ -42,10 +42,22 @@ const SHIFTED_NODES: [Placed; 8] = [
 fn a_pixel_to_earn_and_one_to_keep_white(rt: HostRuntime) -> Result<(), Fail> {
     let face = face_bytes(&rt, rt.alloc(), 2, &TWO_LEVELS, &TWO_PIXELS)?;
     let photo = photo_bytes(rt.alloc(), b"P4 5 6\n", &RISING)?;
-    on_line(rt.alloc(), face, photo, &Answers(5, &[1], &RISING_NODES))?;
+    on_line(
+        &rt,
+        rt.alloc(),
+        face,
+        photo,
+        &Answers(5, &[1], &RISING_NODES),
+    )?;
     let face = face_bytes(&rt, rt.alloc(), 2, &TWO_LEVELS, &TWO_PIXELS)?;
     let photo = photo_bytes(rt.alloc(), b"P4 7 6\n", &SHIFTED)?;
-    on_line(rt.alloc(), face, photo, &Answers(7, &[1], &SHIFTED_NODES))
+    on_line(
+        &rt,
+        rt.alloc(),
+        face,
+        photo,
+        &Answers(7, &[1], &SHIFTED_NODES),
+    )
 }
 
 const FOUR_LEVELS: [Level; 4] = [Level(-1, 0), Level(5, 0), Level(-3, 0), Level(2, 0)];
@@ -106,6 +118,7 @@ fn each_number_of_black_pixels(rt: HostRuntime) -> Result<(), Fail> {
     let face = face_bytes(&rt, rt.alloc(), 4, &FOUR_LEVELS, &FOUR_PIXELS)?;
     let photo = photo_bytes(rt.alloc(), b"P4 9 8\n", &STAIR)?;
     on_line(
+        &rt,
         rt.alloc(),
         face,
         photo,
@@ -154,6 +167,7 @@ fn right_of_the_photograph(rt: HostRuntime) -> Result<(), Fail> {
     let face = face_bytes(&rt, rt.alloc(), 1, &[Level(5, -1), Level(-4, 2)], &WIDE)?;
     let photo = photo_bytes(rt.alloc(), b"P4 3 5\n", &BLACK)?;
     on_line(
+        &rt,
         rt.alloc(),
         face,
         photo,

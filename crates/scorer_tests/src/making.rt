@@ -83,12 +83,13 @@ pub(crate) fn photo_bytes(heap: Global, header: &[u8], rows: &[&[u8]]) -> Result
 pub(crate) trait Questions {
     ghost shown: { Self → Meaning → Type 0 } = { λ _ _. Unit {0} };
 
-    fn ask(&self, scorer: &Printed) -> Result<(), Fail>
+    fn ask(&self, rt: &impl Abort, scorer: &Printed) -> Result<(), Fail>
         ensures { OnOk result (shown self.now (line_meaning scorer.now.face.bytes.now scorer.now.photo)) };
 }
 
 // Makes the scorer of a face and a photograph, and asks.
 pub(crate) fn on_line<Q: Questions>(
+    rt: &impl Abort,
     heap: Global,
     face_bytes: Vec<u8>,
     photo_bytes: Vec<u8>,
@@ -108,5 +109,5 @@ pub(crate) fn on_line<Q: Questions>(
     let columns = printed::gather(heap, &face, &photograph)?;
     let tables = printed::tabulate(heap, &face)?;
     let scorer = Printed::new(face, photograph, &columns, &tables);
-    questions.ask(&scorer)
+    questions.ask(rt, &scorer)
 }

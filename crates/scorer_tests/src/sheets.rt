@@ -94,9 +94,9 @@ fn a_lent_sheet(rt: HostRuntime) -> Result<(), Fail> {
         return Err(Fail::new("the sheet is refused"));
     };
     let sheet = Sheet::new(&bytes);
-    measures(&&sheet, 4, &[1, 2])?;
+    measures(&rt, &&sheet, 4, &[1, 2])?;
     scores(&rt, &&sheet, &LINE)?;
-    measures(&&&sheet, 4, &[1, 2])?;
+    measures(&rt, &&&sheet, 4, &[1, 2])?;
     scores(&rt, &&&sheet, &LINE)
 }
 
@@ -112,13 +112,13 @@ fn a_window_over_a_sheet(rt: HostRuntime) -> Result<(), Fail> {
         return Err(Fail::new("the window is refused"));
     };
     let middle = Window::new(sheet, 1, 2);
-    measures(&middle, 2, &[1, 2])?;
+    measures(&rt, &middle, 2, &[1, 2])?;
     scores(&rt, &middle, &MIDDLE)?;
     let Ok(()) = check_window(&middle, 1, 1) else {
         return Err(Fail::new("the window over the window is refused"));
     };
     let inner = Window::new(middle, 1, 1);
-    measures(&inner, 1, &[1, 2])?;
+    measures(&rt, &inner, 1, &[1, 2])?;
     scores(&rt, &inner, &INNER)?;
     let Err(refusal) = check_window(&sheet, 3, 2) else {
         return Err(Fail::new("a window is made past the sheet"));
@@ -140,6 +140,6 @@ fn a_window_over_a_lent_sheet(rt: HostRuntime) -> Result<(), Fail> {
         return Err(Fail::new("the window is refused"));
     };
     let middle = Window::new(lent, 1, 2);
-    measures(&middle, 2, &[1, 2])?;
+    measures(&rt, &middle, 2, &[1, 2])?;
     scores(&rt, &middle, &MIDDLE)
 }

@@ -91,43 +91,43 @@ fn window<S: Scorer + Copy>(below: S, first: usize, width: usize) -> Result<Wind
 struct Windows;
 
 impl Questions for Windows {
-    fn ask(&self, scorer: &Printed) -> Result<(), Fail> {
+    fn ask(&self, rt: &impl Abort, scorer: &Printed) -> Result<(), Fail> {
         let setwidths = [1, 3, 6];
         let Ok(()) = check_window(scorer, 1, 5) else {
             return Err(Fail::new("the window is refused"));
         };
         let middle = Window::new(*scorer, 1, 5);
-        measures(&middle, 5, &setwidths)?;
-        nodes(&middle, &MIDDLE)?;
+        measures(rt, &middle, 5, &setwidths)?;
+        nodes(rt, &middle, &MIDDLE)?;
         let Ok(()) = check_window(&middle, 1, 3) else {
             return Err(Fail::new("the window over the window is refused"));
         };
         let inner = Window::new(middle, 1, 3);
-        measures(&inner, 3, &setwidths)?;
-        nodes(&inner, &INNER)
+        measures(rt, &inner, 3, &setwidths)?;
+        nodes(rt, &inner, &INNER)
     }
 }
 
 struct LentWindows;
 
 impl Questions for LentWindows {
-    fn ask(&self, scorer: &Printed) -> Result<(), Fail> {
+    fn ask(&self, rt: &impl Abort, scorer: &Printed) -> Result<(), Fail> {
         let setwidths = [1, 3, 6];
-        nodes(scorer, &LINE)?;
+        nodes(rt, scorer, &LINE)?;
         let whole = window(scorer, 0, 7)?;
-        measures(&whole, 7, &setwidths)?;
-        nodes(&whole, &LINE)?;
+        measures(rt, &whole, 7, &setwidths)?;
+        nodes(rt, &whole, &LINE)?;
         let last = window(scorer, 6, 1)?;
-        measures(&last, 1, &setwidths)?;
-        nodes(&last, &LAST)?;
+        measures(rt, &last, 1, &setwidths)?;
+        nodes(rt, &last, &LAST)?;
         let middle = window(scorer, 1, 5)?;
-        measures(&middle, 5, &setwidths)?;
-        nodes(&middle, &MIDDLE)?;
+        measures(rt, &middle, 5, &setwidths)?;
+        nodes(rt, &middle, &MIDDLE)?;
         let inner = window(&middle, 1, 3)?;
-        measures(&inner, 3, &setwidths)?;
-        nodes(&inner, &INNER)?;
-        measures(&&inner, 3, &setwidths)?;
-        nodes(&&inner, &INNER)
+        measures(rt, &inner, 3, &setwidths)?;
+        nodes(rt, &inner, &INNER)?;
+        measures(rt, &&inner, 3, &setwidths)?;
+        nodes(rt, &&inner, &INNER)
     }
 }
 
@@ -167,19 +167,19 @@ fn told<S: Scorer>(below: &S, first: usize, width: usize) -> (u8, usize) {
 struct Spans;
 
 impl Questions for Spans {
-    fn ask(&self, scorer: &Printed) -> Result<(), Fail> {
+    fn ask(&self, rt: &impl Abort, scorer: &Printed) -> Result<(), Fail> {
         for Span(first, width, number, place) in SPANS.iter() {
-            assert_eq!(told(scorer, *first, *width), (*number, *place));
-            assert_eq!(told(&scorer, *first, *width), (*number, *place));
+            assert_eq!(rt; told(scorer, *first, *width), (*number, *place));
+            assert_eq!(rt; told(&scorer, *first, *width), (*number, *place));
         }
 
         // Over a window its own width counts, and not the width below.
         let middle = window(scorer, 1, 5)?;
-        assert_eq!(told(&middle, 0, 5), (0, 0));
-        assert_eq!(told(&middle, 4, 1), (0, 0));
-        assert_eq!(told(&middle, 0, 6), (41, 0));
-        assert_eq!(told(&middle, 1, 5), (41, 1));
-        assert_eq!(told(&middle, 5, 1), (41, 5));
+        assert_eq!(rt; told(&middle, 0, 5), (0, 0));
+        assert_eq!(rt; told(&middle, 4, 1), (0, 0));
+        assert_eq!(rt; told(&middle, 0, 6), (41, 0));
+        assert_eq!(rt; told(&middle, 1, 5), (41, 1));
+        assert_eq!(rt; told(&middle, 5, 1), (41, 5));
         Ok(())
     }
 }
@@ -188,7 +188,7 @@ impl Questions for Spans {
 fn on_seven<Q: Questions>(rt: &(impl Abort + AllocGlobal), questions: &Q) -> Result<(), Fail> {
     let face = face_bytes(rt, rt.alloc(), 2, &[Level(3, 0), Level(-2, 0)], &SHAPES)?;
     let photo = photo_bytes(rt.alloc(), b"P4 7 6\n", &ROWS)?;
-    on_line(rt.alloc(), face, photo, questions)
+    on_line(rt, rt.alloc(), face, photo, questions)
 }
 
 // A window tells what is told below, of its own columns alone, and so does a window over it.

@@ -64,6 +64,7 @@ fn priors_and_levels_of_either_sign(rt: HostRuntime) -> Result<(), Fail> {
     let face = face_bytes(&rt, rt.alloc(), 1, &SIGNS, &SHAPES)?;
     let photo = photo_bytes(rt.alloc(), b"P4 4 5\n", &ROWS)?;
     on_line(
+        &rt,
         rt.alloc(),
         face,
         photo,
@@ -119,7 +120,7 @@ fn largest(rt: &impl Abort, heap: Global, level: i16, nodes: &[Placed]) -> Resul
     let shapes = [Shape(1, 32, 0, &words), Shape(32, 32, -10_000, &words)];
     let face = face_bytes(rt, heap, 32, &levels, &shapes)?;
     let photo = photo_bytes(heap, b"P4 40 36\n", &HALF)?;
-    on_line(heap, face, photo, &Answers(40, &[1, 32], nodes))
+    on_line(rt, heap, face, photo, &Answers(40, &[1, 32], nodes))
 }
 
 // The largest box earns the greatest score over black, and loses the most there.

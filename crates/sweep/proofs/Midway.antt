@@ -74,7 +74,7 @@ module _ {X : Type 0} (r : Rule X) (stored : X → ℕ → Cell) (l : Line) (cel
       swept_suc : (p : ℕ) → p ≤ l.width → swept_on r held stored l (swept_to r stored l cells p) p ≡ swept_to r stored l cells (suc p)
       unfolding swept_to
       swept_suc zero le = refl
-      swept_suc (suc p) le i = with_place l (swept_to r stored l cells (suc p)) (suc p) (stored (next_value p le i) (next_last p le i))
+      swept_suc (suc p) le = λ i. with_place l (swept_to r stored l cells (suc p)) (suc p) (stored (next_value p le i) (next_last p le i))
 
       pub swept_next : (p : ℕ) → p ≤ l.width → swept_on r held stored l (swept_to r stored l cells p) p ≡ swept_to r stored l cells (p + 1)
       swept_next p le = swept_suc p le ∙ ap (swept_to r stored l cells) (sym (add-one p))
