@@ -1,6 +1,6 @@
 -- Where things lie in the cells: a row for each template, one cell for each column and one more, and then the row of the
 -- places. What is read where nothing lies is a blank cell, and what is written there is lost. Assumes nothing.
-use Rattle.std.specs.Prelude.{ℕ, zero, suc, ◌+◌, ◌*◌, ◌≤◌, Bool, ◌&&◌, List, ℤ, Some, None, Option, nat_le, nat_lt, slice_index, slice_index_or, slice_set}
+use Rattle.std.specs.Prelude.{ℕ, zero, suc, ◌+◌, ◌*◌, Bool, ◌&&◌, List, ℤ, Some, None, Option, nat_le, nat_lt, slice_index, slice_index_or, slice_set}
 use Rattle.octets.specs.Absent.{present}
 use Rattle.refusal.specs.First.{Verdict, ensure}
 use Rattle.refusal.specs.declared.Refusal.TheVariants.{CellsTooFew}

@@ -8,7 +8,7 @@ use Rattle.face.specs.Laid.{FaceLaid}
 use Rattle.face.proofs.Columns.{column_there}
 use Rattle.scorer.specs.Nodes.{node_known}
 use Rattle.scorer.specs.Meaning.{Lawful, ScoresLawful, ShiftWithin}
-use Rattle.matching.specs.Counts.{sum, sum_signed, one_if, greatest, lowest}
+use Rattle.matching.specs.Counts.{sum, sum_signed, one_if, lowest}
 use Rattle.matching.specs.Column.{gain, Choice, IsColumnValue}
 use Rattle.matching.specs.Printed.{Image, pixel, rows, ink, column_pixels, pixels, base, free_rows, value_of, column_over_black, over_black, score_at, exact_score, shift_of, black_count, bound_score, printed_meaning}
 use Rattle.matching.proofs.Sums.{sum_signed_same, sum_signed_le, sum_le, sum_swap, sum_signed_swap, times_sum, greatest_is, lowest_is, greatest_at_lowest}

@@ -1,6 +1,5 @@
 use Rattle.std.proofs.Common.{◌*◌, ◌^◌, pos, ◌*ℤ◌, ◌∙◌, arith, w16, SFits, rules}
 use Rattle.std.proofs.lemmas.Int.{to_z-of_z}
-use Rattle.matching.specs.Printed.{pixels}
 use Rattle.matching.proofs.Ranges.{within_more}
 use Rattle.printed.proofs.Adding.{handed}
 use Rattle.printed.proofs.Ties.{pixels_are}

@@ -1,4 +1,4 @@
-use Rattle.std.proofs.Common.{◌≡◌, ℕ, length, vec_items, sym, refl, ap, ◌∙◌, arith}
+use Rattle.std.proofs.Common.{◌≡◌, length, vec_items, refl, ap, ◌∙◌, arith}
 use Rattle.cells.proofs.Views.{length_widths}
 use Rattle.cells.specs.Layout.{score_in}
 use Rattle.cells.specs.Line.{widths}

@@ -1,4 +1,4 @@
-use Rattle.std.proofs.Common.{◌≡◌, ◌≤◌, length, vec_items, vec_len, refl, ap, ◌∙◌, arith}
+use Rattle.std.proofs.Common.{◌≤◌, length, vec_items, vec_len, refl, ap, ◌∙◌, arith}
 use Rattle.cells.proofs.Views.{enough_cells}
 use Rattle.cells.specs.Layout.{needed}
 use Rattle.sweep.specs.Swept.{swept_to, swept_on}

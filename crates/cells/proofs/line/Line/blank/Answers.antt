@@ -1,4 +1,4 @@
-use Rattle.std.proofs.Common.{◌≡◌, suc, set, vec_items, sym, refl, ◌∙◌, add-one}
+use Rattle.std.proofs.Common.{set, vec_items, sym, refl, ◌∙◌, add-one}
 use Rattle.cells.specs.Layout.{blanked, with_cell}
 use Rattle.cells.proofs.line.Line.blank.Goals as goal
 
