@@ -5,7 +5,7 @@ ghost use Rattle.std.specs.Prelude.{◌≡◌, ◌+◌, ◌^◌, ◌<◌, ◌≤
 ghost use Rattle.std.specs.Option.{option_map};
 ghost use Rattle.std.specs.List.{between};
 ghost use Rattle.octets.specs.Absent.{present};
-ghost use Rattle.face.specs.Fields.{count as count_of, levels as levels-of, height as height-of, gamma as gamma-of, write_white, beta as beta-of, name as name_of, setwidth as setwidth-of, box_width, prior as prior-of, columns_start, column_start, columns_there, level_start, template_start};
+ghost use Rattle.face.specs.Fields.{count as count_of, levels as levels_of, height as height_of, gamma as gamma_of, write_white, beta as beta_of, name as name_of, setwidth as setwidth_of, box_width, prior as prior_of, columns_start, column_start, columns_there, level_start, template_start};
 ghost use Rattle.face.specs.Laid.{FaceLaid};
 ghost use Rattle.face.specs.Verdict.{face_verdict};
 
@@ -42,7 +42,7 @@ impl<'a> Face<'a> {
 
     // How many levels a template has.
     pub fn levels(&self) -> usize
-        ensures value { result ≡ levels-of self.now.bytes.now }
+        ensures value { result ≡ levels_of self.now.bytes.now }
         ensures within { (1 ≤ result) × (result ≤ 4) }
     {
         laid(self.bytes);
@@ -51,7 +51,7 @@ impl<'a> Face<'a> {
 
     // How many rows a box has.
     pub fn height(&self) -> usize
-        ensures value { result ≡ height-of self.now.bytes.now }
+        ensures value { result ≡ height_of self.now.bytes.now }
         ensures within { (1 ≤ result) × (result ≤ 32) }
     {
         laid(self.bytes);
@@ -60,7 +60,7 @@ impl<'a> Face<'a> {
 
     // What a pixel of the level earns over black.
     pub fn gamma(&self, level: usize) -> Option<i16>
-        ensures { result ≡ present (nat_lt level (levels-of self.now.bytes.now)) (gamma-of self.now.bytes.now level) }
+        ensures { result ≡ present (nat_lt level (levels_of self.now.bytes.now)) (gamma_of self.now.bytes.now level) }
     {
         let at = self.level_at(level)?;
         Some(i16_at(self.bytes, at))
@@ -68,7 +68,7 @@ impl<'a> Face<'a> {
 
     // Whether the level's pixels are to be white: a pixel over black costs. One that earns 0 there does not count.
     pub fn write_white(&self, level: usize) -> Option<bool>
-        ensures { result ≡ present (nat_lt level (levels-of self.now.bytes.now)) (write_white self.now.bytes.now level) }
+        ensures { result ≡ present (nat_lt level (levels_of self.now.bytes.now)) (write_white self.now.bytes.now level) }
     {
         let gamma = self.gamma(level)?;
         Some(gamma < 0)
@@ -76,7 +76,7 @@ impl<'a> Face<'a> {
 
     // What a pixel of the level earns wherever it lies.
     pub fn beta(&self, level: usize) -> Option<i16>
-        ensures { result ≡ present (nat_lt level (levels-of self.now.bytes.now)) (beta-of self.now.bytes.now level) }
+        ensures { result ≡ present (nat_lt level (levels_of self.now.bytes.now)) (beta_of self.now.bytes.now level) }
     {
         let at = self.level_at(level)?;
         Some(i16_at(self.bytes, at + 2))
@@ -92,7 +92,7 @@ impl<'a> Face<'a> {
 
     // How many columns template `t` takes up on a line.
     pub fn setwidth(&self, t: usize) -> Option<u8>
-        ensures { result ≡ present (nat_lt t (count_of self.now.bytes.now)) (setwidth-of self.now.bytes.now t) }
+        ensures { result ≡ present (nat_lt t (count_of self.now.bytes.now)) (setwidth_of self.now.bytes.now t) }
     {
         let at = self.template_at(t)?;
         Some(byte_at(self.bytes, at + 1))
@@ -108,7 +108,7 @@ impl<'a> Face<'a> {
 
     // What template `t` costs wherever it stands.
     pub fn prior(&self, t: usize) -> Option<i16>
-        ensures { result ≡ present (nat_lt t (count_of self.now.bytes.now)) (prior-of self.now.bytes.now t) }
+        ensures { result ≡ present (nat_lt t (count_of self.now.bytes.now)) (prior_of self.now.bytes.now t) }
     {
         let at = self.template_at(t)?;
         Some(i16_at(self.bytes, at + 4))
@@ -154,7 +154,7 @@ impl<'a> Face<'a> {
 
     // The first byte of a level.
     fn level_at(&self, level: usize) -> Option<usize>
-        ensures value { result ≡ present (nat_lt level (levels-of self.now.bytes.now)) (level_start level) }
+        ensures value { result ≡ present (nat_lt level (levels_of self.now.bytes.now)) (level_start level) }
         ensures bound { IfSome result (λ at. at < 2 ^ 20) }
     {
         if level < self.levels() {

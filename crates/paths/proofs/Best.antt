@@ -2,7 +2,7 @@
 use Rattle.std.proofs.Common.{◌≡◌, ℕ, zero, suc, ◌-◌, ◌<◌, ◌≤◌, Bool, true, false, leb, ◌⊎◌, List, [], ◌∷◌, length, get_or, ℤ, pos, ◌+ℤ◌, ◌≤ℤ◌, ◌<ℤ◌, Some, None, Option, sym, refl, ap, ◌∙◌, subst, inl, inr, ⊎_elim, arith}
 use Rattle.std.proofs.lemmas.Int.{ints, by_lt_z}
 use Rattle.std.proofs.lemmas.Bool.{leb-true, le-leb, cases_lt, cases_order, cond-true, cond-false, cond_both}
-use Rattle.std.specs.Int.{int_max as maxZ}
+use Rattle.std.specs.Int.{int_max}
 use Rattle.paths.specs.Combining.{Rule, totals, greater, same_total}
 use Rattle.paths.specs.Paths.{Positive, end_of, Leads, total, Earlier, FirstBest, OneFirstBest}
 use Rattle.paths.specs.Sweep.{joined, changed, brings, place_value, place_last}
@@ -19,13 +19,13 @@ some_not_none o z e f = let no : ◌≡◌ {A = ℕ} 0 1 = cc in omega arith
 greater_left : (a b : Option ℤ) (y : ℤ) → a ≡ Some y → (z : ℤ) × (greater a b ≡ Some z) × (y ≤ℤ z)
 greater_left None b y e = absurd (some_not_none None y e refl)
 greater_left (Some x) None y e = (x, refl, let same : y ≡ x = cc in omega (arith, ints))
-greater_left (Some x) (Some w) y e = (maxZ x w, refl, let same : y ≡ x = cc in rw same (grind (arith, ints)))
+greater_left (Some x) (Some w) y e = (int_max x w, refl, let same : y ≡ x = cc in rw same (grind (arith, ints)))
 
 -- and at least the second
 greater_right : (a b : Option ℤ) (y : ℤ) → b ≡ Some y → (z : ℤ) × (greater a b ≡ Some z) × (y ≤ℤ z)
 greater_right None b y e = (y, e, omega (arith, ints))
 greater_right (Some x) None y e = absurd (some_not_none None y e refl)
-greater_right (Some x) (Some w) y e = (maxZ x w, refl, let same : y ≡ w = cc in rw same (grind (arith, ints)))
+greater_right (Some x) (Some w) y e = (int_max x w, refl, let same : y ≡ w = cc in rw same (grind (arith, ints)))
 
 -- the greater of two totals is the first of them, or the second, which is then above the first
 greater_picks : (a b : Option ℤ) (z : ℤ) → greater a b ≡ Some z
@@ -35,7 +35,7 @@ greater_picks None None z e = absurd (some_not_none None z e refl)
 greater_picks None (Some w) z e = inr (e, refl, λ y f. absurd (some_not_none None y f refl))
 greater_picks (Some x) None z e = inl (e, grind (arith, ints))
 greater_picks (Some x) (Some w) z e =
-    let top : maxZ x w ≡ z = cc in
+    let top : int_max x w ≡ z = cc in
     by_lt_z x w
     (λ lt.
     let up : w ≡ z = grind (arith, ints) in

@@ -5,7 +5,7 @@ use Rattle.std.proofs.lemmas.List.{map-append, length-append, length-map, get_or
 use Rattle.std.proofs.lemmas.Int.{ints, by_lt_z}
 use Rattle.std.proofs.lemmas.Bool.{leb-true, le-leb, cases_lt, cond_both, cond-true, false≢true, or_left}
 use Rattle.std.specs.Int.{int_max}
-use Rattle.std.specs.List.{ContainsAt as Has, AllByRecursion as All}
+use Rattle.std.specs.List.{ContainsAt, AllByRecursion}
 use Rattle.paths.specs.Combining.{Rule, RuleLawful, reach, added, greater, totals}
 use Rattle.paths.specs.Paths.{Positive, Leads, total}
 use Rattle.paths.specs.Sweep.{joined, brings, value_within, place_value, along, join_all, EachPathOnce, Joins}
@@ -38,7 +38,7 @@ abbrev Once : {X : Type 0} → List X → Type 0
 Once {X} xs = (i j : ℕ) (d : X) → i < j → j < length xs → get_or xs i d ≡ get_or xs j d → ⊥
 
 -- what is in a list is, changed, in the changed list
-has_map : {X Y : Type 0} (f : X → Y) (xs : List X) (x : X) → Has xs x → Has (map f xs) (f x)
+has_map : {X Y : Type 0} (f : X → Y) (xs : List X) (x : X) → ContainsAt xs x → ContainsAt (map f xs) (f x)
 has_map f xs x (k, lt, here) = (k, simp length-map lt, λ d. get_or-map f xs k x d lt ∙ ap f (here x))
 
 -- no two are alike in a list changed by what keeps them apart
@@ -91,15 +91,15 @@ module _ (ds : List ℕ) (positive : Positive ds) (paths : ℕ → List (List No
       (λ e. none)
 
   -- the paths whose last template is t lead to the place
-  ending_lead : (t : ℕ) → t < length ds → All (Leads ds p) (ending ds paths p t)
-  ending_lead t known = ends (All (Leads ds p)) t known tt λ few once.
+  ending_lead : (t : ℕ) → t < length ds → AllByRecursion (Leads ds p) (ending ds paths p t)
+  ending_lead t known = ends (AllByRecursion (Leads ds p)) t known tt λ few once.
       let back : p - get_or ds t 0 + get_or ds t 0 ≡ p = omega arith in
       All-map (Leads ds p) _ (paths (p - get_or ds t 0))
       (All-weaker (Leads ds (p - get_or ds t 0)) _ (λ path leads. (known, back, leads)) (paths (p - get_or ds t 0)) once.lead)
 
   -- their last template is t
-  ending_last : (t : ℕ) → t < length ds → All (λ path. last_template path ≡ t) (ending ds paths p t)
-  ending_last t known = ends (All (λ path. last_template path ≡ t)) t known tt λ few once.
+  ending_last : (t : ℕ) → t < length ds → AllByRecursion (λ path. last_template path ≡ t) (ending ds paths p t)
+  ending_last t known = ends (AllByRecursion (λ path. last_template path ≡ t)) t known tt λ few once.
       All-map (λ path. last_template path ≡ t) _ (paths (p - get_or ds t 0))
       (All-weaker (Leads ds (p - get_or ds t 0)) _ (λ path leads. refl) (paths (p - get_or ds t 0)) once.lead)
 
@@ -109,29 +109,29 @@ module _ (ds : List ℕ) (positive : Positive ds) (paths : ℕ → List (List No
       once_map (λ path. node_to ds p t ∷ path) (shorter_alike (node_to ds p t)) (paths (p - get_or ds t 0)) once.once
 
   -- every path that leads to the place is listed by its last template
-  ending_has : (n : Node) (earlier : List Node) → Leads ds p (n ∷ earlier) → Has (ending ds paths p n.template) (n ∷ earlier)
+  ending_has : (n : Node) (earlier : List Node) → Leads ds p (n ∷ earlier) → ContainsAt (ending ds paths p n.template) (n ∷ earlier)
   ending_has n earlier (known, back, leads) =
       let few : get_or ds n.template 0 ≤ p = omega arith in
       let here : p - get_or ds n.template 0 ≡ n.column = omega arith in
-      let short : Has (paths (p - get_or ds n.template 0)) earlier =
+      let short : ContainsAt (paths (p - get_or ds n.template 0)) earlier =
       (before (p - get_or ds n.template 0) (omega (arith, positive n.template known))).every earlier
       (subst (λ q. Leads ds q earlier) (sym here) leads) in
-      let long : Has (map (λ path. node_to ds p n.template ∷ path) (paths (p - get_or ds n.template 0))) (node_to ds p n.template ∷ earlier) =
+      let long : ContainsAt (map (λ path. node_to ds p n.template ∷ path) (paths (p - get_or ds n.template 0))) (node_to ds p n.template ∷ earlier) =
       has_map (λ path. node_to ds p n.template ∷ path) (paths (p - get_or ds n.template 0)) earlier short in
       let same : node_to ds p n.template ≡ n = λ i. record { column = here i; template = n.template } in
       let listed : ending ds paths p n.template ≡ map (λ path. node_to ds p n.template ∷ path) (paths (p - get_or ds n.template 0)) =
       cond-true (leb (get_or ds n.template 0) p) _ [] (le-leb (get_or ds n.template 0) p few) in
-      subst (λ l. Has l (n ∷ earlier)) (sym listed) (subst (λ m. Has (map (λ path. node_to ds p n.template ∷ path) (paths (p - get_or ds n.template 0))) (m ∷ earlier)) same long)
+      subst (λ l. ContainsAt l (n ∷ earlier)) (sym listed) (subst (λ m. ContainsAt (map (λ path. node_to ds p n.template ∷ path) (paths (p - get_or ds n.template 0))) (m ∷ earlier)) same long)
 
   -- the paths whose last template is below n lead to the place
-  endings_lead : (n : ℕ) → n ≤ length ds → All (Leads ds p) (endings ds paths p n)
+  endings_lead : (n : ℕ) → n ≤ length ds → AllByRecursion (Leads ds p) (endings ds paths p n)
   unfolding endings
   endings_lead zero h = tt
   endings_lead (suc n) h =
       All-append (Leads ds p) (endings ds paths p n) (ending ds paths p n) (endings_lead n (omega arith)) (ending_lead n (omega arith))
 
   -- their last templates are below n
-  endings_last : (n : ℕ) → n ≤ length ds → All (λ path. last_template path < n) (endings ds paths p n)
+  endings_last : (n : ℕ) → n ≤ length ds → AllByRecursion (λ path. last_template path < n) (endings ds paths p n)
   unfolding endings
   endings_last zero h = tt
   endings_last (suc n) h =
@@ -153,18 +153,18 @@ module _ (ds : List ℕ) (positive : Positive ds) (paths : ℕ → List (List No
       omega (arith, ap last_template e))
 
   -- what is listed by a template below n is among them
-  endings_has : (n t : ℕ) → t < n → (path : List Node) → Has (ending ds paths p t) path → Has (endings ds paths p n) path
+  endings_has : (n t : ℕ) → t < n → (path : List Node) → ContainsAt (ending ds paths p t) path → ContainsAt (endings ds paths p n) path
   unfolding endings
   endings_has zero t less path has = absurd (omega arith)
   endings_has (suc n) t less path has = ⊎_elim
       (λ below. has_append_left (endings ds paths p n) (ending ds paths p n) path (endings_has n t below path has))
       (λ above.
       let e : t ≡ n = omega arith in
-      has_append_right (endings ds paths p n) (ending ds paths p n) path (subst (λ k. Has (ending ds paths p k) path) e has))
+      has_append_right (endings ds paths p n) (ending ds paths p n) path (subst (λ k. ContainsAt (ending ds paths p k) path) e has))
       (cases_lt t n)
 
   -- every path that leads to a place past 0 is among those of all templates
-  endings_every : (path : List Node) → Leads ds p path → 1 ≤ p → Has (endings ds paths p (length ds)) path
+  endings_every : (path : List Node) → Leads ds p path → 1 ≤ p → ContainsAt (endings ds paths p (length ds)) path
   endings_every [] leads past = absurd (omega arith)
   endings_every (n ∷ earlier) leads past = endings_has (length ds) n.template leads.0 (n ∷ earlier) (ending_has n earlier leads)
 
@@ -178,7 +178,7 @@ module _ (ds : List ℕ) (positive : Positive ds) (paths : ℕ → List (List No
 
 module _ (ds : List ℕ) (positive : Positive ds) where
   -- every path that leads to place 0 is empty
-  start_every : (path : List Node) → Leads ds 0 path → Has ([] ∷ []) path
+  start_every : (path : List Node) → Leads ds 0 path → ContainsAt ([] ∷ []) path
   start_every [] leads = (0, omega arith, λ d. refl)
   start_every (n ∷ earlier) (known, back, leads) = absurd (omega (arith, positive n.template known))
 
@@ -257,12 +257,12 @@ module _ (score : ℕ → ℕ → ℤ) where
   along_yes (n ∷ earlier) = along_yes earlier
 
   -- where the join over listed paths says yes, one is listed
-  listed_from_yes : (P : List Node → Type 0) (paths : List (List Node)) → All P paths → join_all reach (map (along reach score) paths) ≡ true → (path : List Node) × P path
+  listed_from_yes : (P : List Node → Type 0) (paths : List (List Node)) → AllByRecursion P paths → join_all reach (map (along reach score) paths) ≡ true → (path : List Node) × P path
   listed_from_yes P [] all e = absurd (false≢true e)
   listed_from_yes P (path ∷ paths) all e = (path, all.0)
 
   -- where a path is listed, the join over the listed paths says yes
-  yes_from_listed : (paths : List (List Node)) (path : List Node) → Has paths path → join_all reach (map (along reach score) paths) ≡ true
+  yes_from_listed : (paths : List (List Node)) (path : List Node) → ContainsAt paths path → join_all reach (map (along reach score) paths) ≡ true
   yes_from_listed [] path (k, lt, here) = absurd (omega arith)
   yes_from_listed (first ∷ paths) path has = or_left (along reach score first) (join_all reach (map (along reach score) paths)) (along_yes first)
 
@@ -276,8 +276,8 @@ reach_tells ds positive score p =
 
 -- of listed paths: none, or the greatest of their totals
 abbrev GreatestListed : (ℕ → ℕ → ℤ) → (List Node → Type 0) → List (List Node) → Option ℤ → Type 0
-GreatestListed score P paths None = All (λ path. ⊥) paths
-GreatestListed score P paths (Some z) = ((path : List Node) × P path × (total score path ≡ z)) × All (λ path. total score path ≤ℤ z) paths
+GreatestListed score P paths None = AllByRecursion (λ path. ⊥) paths
+GreatestListed score P paths (Some z) = ((path : List Node) × P path × (total score path ≡ z)) × AllByRecursion (λ path. total score path ≤ℤ z) paths
 
 module _ (score : ℕ → ℕ → ℤ) (P : List Node → Type 0) where
   -- the greatest total of one more path
@@ -299,7 +299,7 @@ module _ (score : ℕ → ℕ → ℤ) (P : List Node → Type 0) where
   along_total (n ∷ earlier) = ap (λ v. added (λ z. z) v (score n.column n.template)) (along_total earlier)
 
   -- the join over listed paths is the greatest of their totals, or nothing where none is listed
-  greatest_listed : (paths : List (List Node)) → All P paths → GreatestListed score P paths (join_all totals (map (along totals score) paths))
+  greatest_listed : (paths : List (List Node)) → AllByRecursion P paths → GreatestListed score P paths (join_all totals (map (along totals score) paths))
   greatest_listed [] all = tt
   greatest_listed (path ∷ paths) (is, all) =
       subst (λ v. GreatestListed score P (path ∷ paths) (greater v (join_all totals (map (along totals score) paths)))) (sym (along_total path))
@@ -308,7 +308,7 @@ module _ (score : ℕ → ℕ → ℤ) (P : List Node → Type 0) where
 module _ (ds : List ℕ) (positive : Positive ds) (score : ℕ → ℕ → ℤ) (p : ℕ) where
   -- what a sweep of totals gives a place is the greatest total of a list with all the paths that lead there
   all_listed : (v : Option ℤ) → place_value totals ds score p ≡ v
-      → (paths : List (List Node)) × ((path : List Node) → Leads ds p path → Has paths path) × GreatestListed score (Leads ds p) paths v
+      → (paths : List (List Node)) × ((path : List Node) → Leads ds p path → ContainsAt paths path) × GreatestListed score (Leads ds p) paths v
   all_listed v e =
       let j : Joins totals ds score p (place_value totals ds score p) = joins totals totals_lawful ds positive score p in
       (j.paths, j.each_once.every, subst (GreatestListed score (Leads ds p) j.paths) (sym j.value ∙ e) (greatest_listed score (Leads ds p) j.paths j.each_once.lead))

@@ -2,7 +2,7 @@
 use Rattle.std.proofs.Common.{◌≡◌, ℕ, ◌+◌, ◌-◌, ◌*◌, ◌<◌, ◌≤◌, true, ◌&&◌, eqb, List, [], ◌∷◌, ◌++◌, length, get_or, drop, is_ok, Ok, Err, Result, sym, refl, ap, ◌∙◌, subst, arith}
 use Rattle.std.proofs.lemmas.List.{append_assoc, length-append, length-drop, length-take, drop_more, get_or_at}
 use Rattle.std.proofs.lemmas.Bool.{and_parts, and_from, eqb-true, eq-eqb, false≢true}
-use Rattle.std.specs.List.{between, AllByRecursion as All}
+use Rattle.std.specs.List.{between, AllByRecursion}
 use Rattle.octets.specs.Numbers.{byte_at}
 use Rattle.octets.specs.Ranges.{from_to}
 use Rattle.octets.proofs.Ranges.{decides_from_to}
@@ -106,7 +106,7 @@ module _ (photo : List ℕ) where
       let high : e ≤ length photo = omega (arith, run_within photo i White in-i) in
       record {
         some = omega (arith, run_long i e (omega arith) high);
-        all_white = subst (λ q. All (λ c. white c ≡ true) (between i q photo)) (sym is) (run_all White photo i);
+        all_white = subst (λ q. AllByRecursion (λ c. white c ≡ true) (between i q photo)) (sym is) (run_all White photo i);
       }
 
   numeral_from : (i : ℕ) → i ≤ length photo → i < run_end Digit photo i → run_end Digit photo i - i ≤ 5 → Numeral (between i (run_end Digit photo i) photo)

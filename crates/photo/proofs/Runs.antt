@@ -7,7 +7,7 @@ use Rattle.std.proofs.lemmas.List.{get_or-map, take-map, length-map, length-take
 use Rattle.std.proofs.lemmas.Bool.{and_parts, leb-true, cases_Bool, cond-true, cond-false}
 use Rattle.std.proofs.lemmas.List.Sums.{prefix_len-drop_yes, prefix_len-drop_no, prefix_len-drop_all}
 use Rattle.std.specs.Int.Digits.{number_from_digits, AllBelowBase}
-use Rattle.std.specs.List.{between, prefix_len, AllByRecursion as All}
+use Rattle.std.specs.List.{between, prefix_len, AllByRecursion}
 use Rattle.photo.specs.Header.{digit, belongs, run_end, decimal}
 use Rattle.photo.specs.declared.scan.Class.{Class}
 
@@ -33,7 +33,7 @@ decimal_more digits i h =
     ∙ (λ k. number_from_digits 10 (take-map (λ (c : ℕ). c - 48) i digits k) * 10 + get_or-map (λ (c : ℕ). c - 48) digits i 0 0 h k)
 
 -- at most five digits write a number below 100,000, and so does a front of them
-pub decimal_small : (digits : List ℕ) (i : ℕ) → length digits ≤ 5 → All (λ c. digit c ≡ true) digits → decimal (take i digits) < 100000
+pub decimal_small : (digits : List ℕ) (i : ℕ) → length digits ≤ 5 → AllByRecursion (λ c. digit c ≡ true) digits → decimal (take i digits) < 100000
 unfolding decimal
 decimal_small digits i few all =
     let ds = map (λ c. c - 48) (take i digits) in
@@ -45,18 +45,18 @@ decimal_small digits i few all =
     low : (c : ℕ) → digit c ≡ true → c - 48 < 10
     low c e = omega (arith, leb-true c 57 (and_parts (leb 48 c) (leb c 57) e).1)
 
-leading_all : (p : ℕ → Bool) (xs : List ℕ) → All (λ c. p c ≡ true) (take (prefix_len p xs) xs)
+leading_all : (p : ℕ → Bool) (xs : List ℕ) → AllByRecursion (λ c. p c ≡ true) (take (prefix_len p xs) xs)
 leading_all p [] = tt
 leading_all p (x ∷ xs) =
     ⊎_elim
-    (λ e. subst (λ n. All (λ c. p c ≡ true) (take n (x ∷ xs))) (sym (cond-true (p x) (1 + prefix_len p xs) 0 e ∙ one-add (prefix_len p xs))) (e, leading_all p xs))
-    (λ e. subst (λ n. All (λ c. p c ≡ true) (take n (x ∷ xs))) (sym (cond-false (p x) (1 + prefix_len p xs) 0 e)) tt)
+    (λ e. subst (λ n. AllByRecursion (λ c. p c ≡ true) (take n (x ∷ xs))) (sym (cond-true (p x) (1 + prefix_len p xs) 0 e ∙ one-add (prefix_len p xs))) (e, leading_all p xs))
+    (λ e. subst (λ n. AllByRecursion (λ c. p c ≡ true) (take n (x ∷ xs))) (sym (cond-false (p x) (1 + prefix_len p xs) 0 e)) tt)
     (cases_Bool (p x))
 
 -- a run has only bytes of its class
-pub run_all : (class : Class) (photo : List ℕ) (i : ℕ) → All (λ c. belongs class c ≡ true) (between i (run_end class photo i) photo)
+pub run_all : (class : Class) (photo : List ℕ) (i : ℕ) → AllByRecursion (λ c. belongs class c ≡ true) (between i (run_end class photo i) photo)
 unfolding run_end
 run_all class photo i =
     let n = prefix_len (belongs class) (drop i photo) in
     let same : i + n - i ≡ n = omega arith in
-    subst (λ k. All (λ c. belongs class c ≡ true) (take k (drop i photo))) (sym same) (leading_all (belongs class) (drop i photo))
+    subst (λ k. AllByRecursion (λ c. belongs class c ≡ true) (take k (drop i photo))) (sym same) (leading_all (belongs class) (drop i photo))

@@ -4,7 +4,7 @@ use Rattle.std.proofs.lemmas.List.{length-append, length-drop, take-append-drop,
 use Rattle.std.proofs.lemmas.List.Sums.{prefix_len-le-length}
 use Rattle.std.proofs.lemmas.Bool.{and_parts, and_from, lt-ltb, ltb-true, le-leb, leb-true, cond-true, cond-false}
 use Rattle.std.proofs.lemmas.Bool.Decides.{nat_tests}
-use Rattle.std.specs.List.{between, prefix_len, AllByRecursion as All}
+use Rattle.std.specs.List.{between, prefix_len, AllByRecursion}
 use Rattle.refusal.specs.First.{ensure, after}
 use Rattle.refusal.specs.declared.Refusal.TheVariants.{PhotographHeader}
 use Rattle.refusal.proofs.First.{after_ensure, after_met}
@@ -74,7 +74,7 @@ abbrev pub Ends : Class → List ℕ → Type 0
 Ends class [] = Unit {0}
 Ends class (c ∷ cs) = belongs class c ≡ false
 
-leading_is : (p : ℕ → Bool) (run rest : List ℕ) → All (λ c. p c ≡ true) run → prefix_len p rest ≡ 0 → prefix_len p (run ++ rest) ≡ length run
+leading_is : (p : ℕ → Bool) (run rest : List ℕ) → AllByRecursion (λ c. p c ≡ true) run → prefix_len p rest ≡ 0 → prefix_len p (run ++ rest) ≡ length run
 leading_is p [] rest all none = none
 leading_is p (x ∷ xs) rest all none =
     cond-true (p x) (1 + prefix_len p (xs ++ rest)) 0 all.0 ∙ ap (λ n. 1 + n) (leading_is p xs rest all.1 none) ∙ one-add (length xs)
@@ -84,7 +84,7 @@ ends_none class [] e = refl
 ends_none class (c ∷ cs) e = cond-false (belongs class c) (1 + prefix_len (belongs class) cs) 0 e
 
 -- the run that stands after the front
-module _ (class : Class) (front run rest : List ℕ) (all : All (λ c. belongs class c ≡ true) run) (ends : Ends class rest) where
+module _ (class : Class) (front run rest : List ℕ) (all : AllByRecursion (λ c. belongs class c ≡ true) run) (ends : Ends class rest) where
   pub run_is : run_end class (front ++ (run ++ rest)) (length front) ≡ length front + length run
   unfolding run_end
   run_is = ap (λ l. length front + prefix_len (belongs class) l) (drop_at front (run ++ rest) (length front) refl) ∙ ap (λ n. length front + n) (leading_is (belongs class) run rest all (ends_none class rest ends))
@@ -95,16 +95,16 @@ module _ (class : Class) (front run rest : List ℕ) (all : All (λ c. belongs c
       (λ k. take (size k) (drop_at front (run ++ rest) (length front) refl k)) ∙ take_at run rest (length run) refl
 
 -- the same in bytes that are known to be cut so
-pub run_there : (class : Class) (photo front run rest : List ℕ) → photo ≡ front ++ (run ++ rest) → All (λ c. belongs class c ≡ true) run → Ends class rest → (run_end class photo (length front) ≡ length (front ++ run)) × (between (length front) (run_end class photo (length front)) photo ≡ run)
+pub run_there : (class : Class) (photo front run rest : List ℕ) → photo ≡ front ++ (run ++ rest) → AllByRecursion (λ c. belongs class c ≡ true) run → Ends class rest → (run_end class photo (length front) ≡ length (front ++ run)) × (between (length front) (run_end class photo (length front)) photo ≡ run)
 run_there class photo front run rest e all ends =
     subst (λ p. (run_end class p (length front) ≡ length (front ++ run)) × (between (length front) (run_end class p (length front)) p ≡ run)) (sym e)
     (run_is class front run rest all ends ∙ sym (length-append front run), between_is_run class front run rest all ends)
 
 -- what begins with a digit ends a run of white bytes, and the other way round
-pub digits_end_white : (xs ys : List ℕ) → 1 ≤ length xs → All (λ c. digit c ≡ true) xs → Ends White (xs ++ ys)
+pub digits_end_white : (xs ys : List ℕ) → 1 ≤ length xs → AllByRecursion (λ c. digit c ≡ true) xs → Ends White (xs ++ ys)
 digits_end_white [] ys some all = absurd (omega arith)
 digits_end_white (x ∷ xs) ys some all = digit_not_white x all.0
 
-pub white_ends_digits : (xs ys : List ℕ) → 1 ≤ length xs → All (λ c. white c ≡ true) xs → Ends Digit (xs ++ ys)
+pub white_ends_digits : (xs ys : List ℕ) → 1 ≤ length xs → AllByRecursion (λ c. white c ≡ true) xs → Ends Digit (xs ++ ys)
 white_ends_digits [] ys some all = absurd (omega arith)
 white_ends_digits (x ∷ xs) ys some all = white_not_digit x all.0

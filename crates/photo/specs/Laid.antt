@@ -1,6 +1,6 @@
 -- The layout of a photograph, in words. Assumes nothing.
 use Rattle.std.specs.Prelude.{◌≡◌, ℕ, ◌+◌, ◌*◌, ◌≤◌, true, List, ◌∷◌, ◌++◌, length, Ok, Result}
-use Rattle.std.specs.List.{AllByRecursion as All}
+use Rattle.std.specs.List.{AllByRecursion}
 use Rattle.refusal.specs.declared.Refusal.{Refusal}
 use Rattle.photo.specs.declared.scan.Header.{Header}
 use Rattle.photo.specs.Header.{white, digit, decimal}
@@ -9,13 +9,13 @@ use Rattle.photo.specs.Verdict.{stride}
 -- white bytes, at least one
 pub record Gap (bytes : List ℕ) : Type 0 where
   pub some : 1 ≤ length bytes
-  pub all_white : All (λ c. white c ≡ true) bytes
+  pub all_white : AllByRecursion (λ c. white c ≡ true) bytes
 
 -- one to five digits
 pub record Numeral (bytes : List ℕ) : Type 0 where
   pub some : 1 ≤ length bytes
   pub few : length bytes ≤ 5
-  pub all_digits : All (λ c. digit c ≡ true) bytes
+  pub all_digits : AllByRecursion (λ c. digit c ≡ true) bytes
 
 -- the bytes are P4, a gap, the width, a gap, the height, one white byte and the raster
 pub record PhotographLaid (photo : List ℕ) (rows : ℕ) (h : Header) : Type 0 where

@@ -1,6 +1,6 @@
 // The scan of a photograph's header, one part after the other.
 ghost use Rattle.std.specs.Prelude.{◌≡◌, ◌+◌, ◌<◌, ◌≤◌, true, length, IfOk};
-ghost use Rattle.std.specs.List.{AllByRecursion as All};
+ghost use Rattle.std.specs.List.{AllByRecursion};
 ghost use Rattle.photo.specs.Header.{white, digit, belongs as belonging, run_end, decimal, scan_white, scan_number, scan_one_white, scan_header};
 
 use refusal::{Refusal, ensure};
@@ -59,7 +59,7 @@ fn run_end(bytes: &[u8], from: usize, class: Class) -> usize
 
 // The number that at most five digits write.
 fn decimal_of(digits: &[u8]) -> usize
-    requires { (length digits.now ≤ 5) × (All (λ c. digit c ≡ true) digits.now) }
+    requires { (length digits.now ≤ 5) × (AllByRecursion (λ c. digit c ≡ true) digits.now) }
     ensures value { result ≡ decimal digits.now }
     ensures bound { result < 100000 }
 {

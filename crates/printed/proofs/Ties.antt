@@ -20,7 +20,7 @@ use Rattle.matching.specs.Words.{word_of}
 use Rattle.matching.proofs.Column.{column_value_same}
 use Rattle.matching.proofs.Sums.{sum_same, sum_signed_same}
 use Rattle.matching.proofs.Words.{matched, ones_counted}
-use Rattle.printed.specs.Glyph.{weight, light, glyph_word, ink as glyph-ink, column_gain, ink_value}
+use Rattle.printed.specs.Glyph.{weight, light, glyph_word, ink as glyph_ink, column_gain, ink_value}
 use Rattle.printed.specs.Tables.{weights_of, box_words, Boxed}
 
 module _ (face : List ℕ) where
@@ -75,16 +75,16 @@ module _ (face : List ℕ) where
           ltb-true (column_word face (first + c) l) (2 ^ height face)
           ((bits_below (column_word face (first + c) l) (height face)).1 (laid.columns_laid (first + c) l (column_there face t c there within) h).inside)
 
-      pub ink_is : (l : ℕ) → l < levels face → glyph-ink words (weights_of face) c l ≡ ink face (first + c) l
+      pub ink_is : (l : ℕ) → l < levels face → glyph_ink words (weights_of face) c l ≡ ink face (first + c) l
       ink_is l h = ap ones (word_is l h) ∙ ones_counted (height face) (column_word face (first + c) l) (below l h)
 
       pub value_is : (black : ℕ) → ink_value words (weights_of face) (rows face) c black ≡ value_of face (first + c) black
       unfolding value_of
       value_is black =
           let L = levels face in
-          let inks : sum L (glyph-ink words (weights_of face) c) ≡ sum L (ink face (first + c)) = sum_same L _ _ ink_is in
-          ap (λ n. column_value (weight (weights_of face)) (glyph-ink words (weights_of face) c) (rows face - sum n (glyph-ink words (weights_of face) c)) n black) weights_length
-          ∙ column_value_same (weight (weights_of face)) (gamma face) (glyph-ink words (weights_of face) c) (ink face (first + c)) (rows face - sum L (glyph-ink words (weights_of face) c)) L weight_is ink_is black
+          let inks : sum L (glyph_ink words (weights_of face) c) ≡ sum L (ink face (first + c)) = sum_same L _ _ ink_is in
+          ap (λ n. column_value (weight (weights_of face)) (glyph_ink words (weights_of face) c) (rows face - sum n (glyph_ink words (weights_of face) c)) n black) weights_length
+          ∙ column_value_same (weight (weights_of face)) (gamma face) (glyph_ink words (weights_of face) c) (ink face (first + c)) (rows face - sum L (glyph_ink words (weights_of face) c)) L weight_is ink_is black
           ∙ ap (λ n. column_value (gamma face) (ink face (first + c)) (rows face - n) L black) inks
 
       -- what a column earns over a column of the image
@@ -100,10 +100,10 @@ module _ (face : List ℕ) where
             λ i. weight_is l h i *ℤ pos (over i))
 
     -- how many pixels a level has
-    pub pixels_are : (ws : List ℕ) (vs : List ℤ) (width : ℕ) → Boxed face t ws vs width → (l : ℕ) → l < levels face → sum width (λ c. glyph-ink ws vs c l) ≡ pixels face t l
+    pub pixels_are : (ws : List ℕ) (vs : List ℤ) (width : ℕ) → Boxed face t ws vs width → (l : ℕ) → l < levels face → sum width (λ c. glyph_ink ws vs c l) ≡ pixels face t l
     pixels_are ws vs width b l h =
-        (λ i. sum (b.width_is i) (λ c. glyph-ink (b.words_are i) (b.weights_are i) c l))
-        ∙ sum_same (box_width face t) (λ c. glyph-ink words (weights_of face) c l) (λ c. ink face (first + c) l) (λ c k. ink_is c k l h)
+        (λ i. sum (b.width_is i) (λ c. glyph_ink (b.words_are i) (b.weights_are i) c l))
+        ∙ sum_same (box_width face t) (λ c. glyph_ink words (weights_of face) c l) (λ c. ink face (first + c) l) (λ c k. ink_is c k l h)
 
     -- what a column can earn
     pub values_are : (ws : List ℕ) (vs : List ℤ) (width height : ℕ) → Boxed face t ws vs width → height ≡ rows face → (c : ℕ) → c < width → (black : ℕ) → ink_value ws vs height c black ≡ value_of face (first + c) black

@@ -4,10 +4,10 @@
 mod best;
 mod glyph;
 mod image;
-mod scorer;
+mod printed_scorer;
 mod tables;
 mod values;
 
 pub use image::{Columns, gather};
-pub use scorer::Printed;
+pub use printed_scorer::Printed;
 pub use tables::{Tables, Template, tabulate};

@@ -4,7 +4,7 @@ ghost use Rattle.std.specs.List.{range_with_len};
 ghost use Rattle.face.specs.Fields.{count, levels, gamma, beta, prior, box_width, columns_before};
 ghost use Rattle.face.specs.Laid.{FaceLaid};
 ghost use Rattle.matching.proofs.Ranges.{Within};
-ghost use Rattle.matching.specs.Printed.{base as base-of, pixels};
+ghost use Rattle.matching.specs.Printed.{base as base_of, pixels};
 ghost use Rattle.printed.specs.Tables.{weights_of, Boxed};
 ghost use Rattle.printed.specs.Tabulated.{template_of, ValuesTo, Tabulated};
 
@@ -110,7 +110,7 @@ fn level_worth(face: &Face, glyph: &Glyph, t: usize, l: usize) -> i64
 // What a template earns before any pixel is looked at.
 fn base_of(face: &Face, glyph: &Glyph, t: usize) -> i64
     requires { (t < count face.now.bytes.now) × (Boxed face.now.bytes.now t glyph.now.words.now glyph.now.weights.now glyph.now.width) }
-    ensures { result ≡ base-of face.now.bytes.now t }
+    ensures { result ≡ base_of face.now.bytes.now t }
 {
     let mut base = prior_of(face, t);
     for l in 0..face.levels() {

@@ -4,7 +4,7 @@ use Rattle.matching.specs.Printed.{rows, black_count}
 use Rattle.matching.proofs.Rows.{count_le}
 use Rattle.printed.specs.Gathered.{image_of}
 use Rattle.printed.proofs.Whites.{black_at_column}
-use Rattle.printed.proofs.scorer.Printed.black_at.Goals as goal
+use Rattle.printed.proofs.printed_scorer.Printed.black_at.Goals as goal
 
 pub returns-then-x-self : goal.returns-then-x-self
 returns-then-x-self c =

@@ -3,7 +3,7 @@ use Rattle.matching.specs.Printed.{value_of}
 use Rattle.matching.proofs.Ranges.{Within}
 use Rattle.printed.proofs.Adding.{handed}
 use Rattle.printed.proofs.Valued.{value_entry, value_small}
-use Rattle.printed.proofs.scorer.Printed.value_at.Goals as goal
+use Rattle.printed.proofs.printed_scorer.Printed.value_at.Goals as goal
 
 pub returns : goal.returns
 returns c =

@@ -3,7 +3,7 @@ use Rattle.std.proofs.lemmas.Int.{ints}
 use Rattle.matching.specs.Printed.{base}
 use Rattle.printed.proofs.Adding.{added, handed}
 use Rattle.printed.proofs.Standing.{base_is, base_small, gained}
-use Rattle.printed.proofs.scorer.Printed.score_at.Goals as goal
+use Rattle.printed.proofs.printed_scorer.Printed.score_at.Goals as goal
 
 pub overflow_add-result : goal.overflow_add-result
 overflow_add-result c =

@@ -4,7 +4,7 @@ use Rattle.matching.specs.Counts.{sum_signed}
 use Rattle.matching.specs.Printed.{base, value_of, black_count}
 use Rattle.matching.proofs.Ranges.{Within}
 use Rattle.printed.specs.Gathered.{image_of}
-use Rattle.printed.proofs.scorer.Printed.bound_of.Given as goal
+use Rattle.printed.proofs.printed_scorer.Printed.bound_of.Given as goal
 
 abbrev pub invariant-loop-c : goal.invariant-loop-c
 invariant-loop-c l =

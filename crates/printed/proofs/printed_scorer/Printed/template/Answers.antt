@@ -5,7 +5,7 @@ use Rattle.octets.proofs.Absent.{absent, there_is}
 use Rattle.face.specs.Fields.{count}
 use Rattle.printed.specs.declared.tables.Template.{Template}
 use Rattle.printed.specs.Tabulated.{template_of}
-use Rattle.printed.proofs.scorer.Printed.template.Goals as goal
+use Rattle.printed.proofs.printed_scorer.Printed.template.Goals as goal
 
 pub returns-then-t-self : goal.returns-then-t-self
 returns-then-t-self c =

@@ -2,7 +2,7 @@ use Rattle.std.proofs.Common.{◌∙◌, w64, SFits, rules}
 use Rattle.std.proofs.lemmas.Int.{to_z-of_z}
 use Rattle.printed.specs.Gathered.{image_of}
 use Rattle.printed.proofs.Rivals.{row_takes, row_keeps}
-use Rattle.printed.proofs.scorer.Printed.better.Goals as goal
+use Rattle.printed.proofs.printed_scorer.Printed.better.Goals as goal
 
 pub returns-then-best-score : goal.returns-then-best-score
 returns-then-best-score c =

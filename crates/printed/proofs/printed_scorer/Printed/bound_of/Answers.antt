@@ -7,7 +7,7 @@ use Rattle.matching.proofs.Sums.{sum_signed_onto}
 use Rattle.printed.specs.Gathered.{image_of}
 use Rattle.printed.proofs.Adding.{added, handed}
 use Rattle.printed.proofs.Standing.{first_is, width_is, base_is, base_small, column_known, column_few}
-use Rattle.printed.proofs.scorer.Printed.bound_of.Goals as goal
+use Rattle.printed.proofs.printed_scorer.Printed.bound_of.Goals as goal
 
 pub loop-c-init : goal.loop-c-init
 unfolding sum_signed

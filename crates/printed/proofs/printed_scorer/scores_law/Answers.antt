@@ -3,7 +3,7 @@ use Rattle.matching.specs.Printed.{score_at, exact_score}
 use Rattle.matching.proofs.Lawful.{column_value_of}
 use Rattle.matching.proofs.Sums.{greatest_is, lowest_is}
 use Rattle.printed.specs.Gathered.{image_of}
-use Rattle.printed.proofs.scorer.scores_law.Goals as goal
+use Rattle.printed.proofs.printed_scorer.scores_law.Goals as goal
 
 pub returns : goal.returns
 unfolding exact_score

@@ -6,7 +6,7 @@ use Rattle.matching.proofs.Lawful.{exact_at_lowest}
 use Rattle.matching.proofs.Sums.{lowest_is}
 use Rattle.printed.specs.Bests.{best_to}
 use Rattle.printed.specs.Gathered.{image_of}
-use Rattle.printed.proofs.scorer.Printed.best_of.Goals as goal
+use Rattle.printed.proofs.printed_scorer.Printed.best_of.Goals as goal
 
 pub loop-s-init : goal.loop-s-init
 unfolding lowest
