@@ -1,6 +1,6 @@
 // Faces: each refusal with its place, each limit that is still lawful, and the questions.
+use checks::{check, check_eq};
 use face::Face;
-use std::process::Abort;
 use std::test::Fail;
 
 // Two templates, one level, one row: `.` without a box, and `I` with one pixel. The face has 28 bytes; the rest is spare.
@@ -32,14 +32,15 @@ fn told(bytes: &[u8]) -> (u8, usize) {
 }
 
 // Puts each case into a copy of the face and compares what the check tells.
-fn compare(rt: &impl Abort, face: [u8; 36], length: usize, cases: &[Case]) {
+fn compare(face: [u8; 36], length: usize, cases: &[Case]) -> Result<(), Fail> {
     for Case(at, put, number, place) in cases {
         let mut bytes = face;
-        assert!(rt; *at < 35 && length <= 36);
+        check(*at < 35 && length <= 36)?;
         bytes[*at] = put[0];
         bytes[*at + 1] = put[1];
-        assert_eq!(rt; told(&bytes[0..length]), (*number, *place));
+        check_eq(told(&bytes[0..length]), (*number, *place))?;
     }
+    Ok(())
 }
 
 const HEAD_AND_LEVEL: [Case; 29] = [
@@ -120,13 +121,12 @@ const LEVELS_APART: [Case; 6] = [
 ];
 
 #[test]
-fn each_field_at_its_limits(rt: HostRuntime) {
-    compare(&rt, SAMPLE, 28, &HEAD_AND_LEVEL);
-    compare(&rt, SAMPLE, 28, &TEMPLATES);
-    compare(&rt, TWO_LEVELS, 36, &LEVELS_APART);
+fn each_field_at_its_limits() -> Result<(), Fail> {
+    compare(SAMPLE, 28, &HEAD_AND_LEVEL)?;
+    compare(SAMPLE, 28, &TEMPLATES)?;
+    compare(TWO_LEVELS, 36, &LEVELS_APART)?;
     // The third level may share no pixel with the first either.
     compare(
-        &rt,
         THREE_LEVELS,
         36,
         &[
@@ -134,7 +134,7 @@ fn each_field_at_its_limits(rt: HostRuntime) {
             Case(32, [1, 0], 17, 32),
             Case(32, [2, 0], 17, 32),
         ],
-    );
+    )
 }
 
 #[test]

@@ -1,7 +1,7 @@
 // Photographs: each refusal with its place, what a header may hold, and pixels.
+use checks::check_eq;
 use listing::read_line;
 use photo::Photograph;
-use std::process::Abort;
 use std::test::Fail;
 
 // The file, and what the check tells of it with five rows; number 0 is lawful.
@@ -71,17 +71,18 @@ const NUMBERS: [Case; 17] = [
     Case(b"P4 1 5\n12345", 0, 0),
 ];
 
-fn compare(rt: &impl Abort, cases: &[Case]) {
+fn compare(cases: &[Case]) -> Result<(), Fail> {
     for Case(bytes, number, place) in cases {
-        assert_eq!(rt; told(bytes, 5), (*number, *place));
+        check_eq(told(bytes, 5), (*number, *place))?;
     }
+    Ok(())
 }
 
 #[test]
-fn each_part_of_a_header(rt: HostRuntime) {
-    compare(&rt, &KIND_AND_END);
-    compare(&rt, &BYTES);
-    compare(&rt, &NUMBERS);
+fn each_part_of_a_header() -> Result<(), Fail> {
+    compare(&KIND_AND_END)?;
+    compare(&BYTES)?;
+    compare(&NUMBERS)
 }
 
 #[test]

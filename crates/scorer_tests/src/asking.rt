@@ -3,9 +3,9 @@ ghost use Rattle.std.specs.Prelude.{length, OnOk};
 ghost use Rattle.scorer_tests.specs.Told.{Measured};
 
 use super::making::Questions;
+use checks::{check, check_eq};
 use printed::Printed;
 use scorer::{PlacedScorer, Scorer};
-use std::process::Abort;
 use std::test::*;
 
 // A column and a template, with the bound, the exact score and the shift there.
@@ -16,38 +16,29 @@ pub(crate) struct Placed(
 );
 
 // Compares width, count and setwidths.
-pub(crate) fn measures<S: Scorer>(
-    rt: &impl Abort,
-    scorer: &S,
-    width: usize,
-    setwidths: &[usize],
-) -> Result<(), Fail>
+pub(crate) fn measures<S: Scorer>(scorer: &S, width: usize, setwidths: &[usize]) -> Result<(), Fail>
     ensures { OnOk result (Measured (S.Scorer.meaning scorer.now) width (length setwidths.now)) }
 {
-    assert!(rt; scorer.width() == width);
-    assert!(rt; scorer.count() == setwidths.len());
+    check(scorer.width() == width)?;
+    check(scorer.count() == setwidths.len())?;
     for (t, setwidth) in setwidths.iter().enumerate() {
-        assert_eq!(rt; scorer.setwidth(t), Some(*setwidth));
+        check_eq(scorer.setwidth(t), Some(*setwidth))?;
     }
-    assert_eq!(rt; scorer.setwidth(setwidths.len()), None);
-    assert_eq!(rt; scorer.setwidth(usize::MAX), None);
+    check_eq(scorer.setwidth(setwidths.len()), None)?;
+    check_eq(scorer.setwidth(usize::MAX), None)?;
     Ok(())
 }
 
 // Compares what is told of each column and template.
-pub(crate) fn nodes<S: PlacedScorer>(
-    rt: &impl Abort,
-    scorer: &S,
-    cases: &[Placed],
-) -> Result<(), Fail> {
+pub(crate) fn nodes<S: PlacedScorer>(scorer: &S, cases: &[Placed]) -> Result<(), Fail> {
     for Placed(x, t, told) in cases {
         let (bound, exact, shift) = match *told {
             Some((bound, exact, shift)) => (Some(bound), Some(exact), Some(shift)),
             None => (None, None, None),
         };
-        assert_eq!(rt; (*x, *t, scorer.bound(*x, *t)), (*x, *t, bound));
-        assert_eq!(rt; (*x, *t, scorer.exact(*x, *t)), (*x, *t, exact));
-        assert_eq!(rt; (*x, *t, scorer.shift(*x, *t)), (*x, *t, shift));
+        check_eq((*x, *t, scorer.bound(*x, *t)), (*x, *t, bound))?;
+        check_eq((*x, *t, scorer.exact(*x, *t)), (*x, *t, exact))?;
+        check_eq((*x, *t, scorer.shift(*x, *t)), (*x, *t, shift))?;
     }
     Ok(())
 }
@@ -64,10 +55,10 @@ impl Questions for Answers<'_> {
     ghost shown = { λ s m. Measured m s.0 (length s.1.now) };
 
     // Asks the scorer, and asks it once more where it is lent.
-    fn ask(&self, rt: &impl Abort, scorer: &Printed) -> Result<(), Fail> {
-        measures(rt, scorer, self.0, self.1)?;
-        nodes(rt, scorer, self.2)?;
-        measures(rt, &scorer, self.0, self.1)?;
-        nodes(rt, &scorer, self.2)
+    fn ask(&self, scorer: &Printed) -> Result<(), Fail> {
+        measures(scorer, self.0, self.1)?;
+        nodes(scorer, self.2)?;
+        measures(&scorer, self.0, self.1)?;
+        nodes(&scorer, self.2)
     }
 }

@@ -40,24 +40,12 @@ const SHIFTED_NODES: [Placed; 8] = [
 // The bound of a column depends on how many of its pixels are black, and the exact score on which.
 #[test]
 fn a_pixel_to_earn_and_one_to_keep_white(rt: HostRuntime) -> Result<(), Fail> {
-    let face = face_bytes(&rt, rt.alloc(), 2, &TWO_LEVELS, &TWO_PIXELS)?;
+    let face = face_bytes(rt.alloc(), 2, &TWO_LEVELS, &TWO_PIXELS)?;
     let photo = photo_bytes(rt.alloc(), b"P4 5 6\n", &RISING)?;
-    on_line(
-        &rt,
-        rt.alloc(),
-        face,
-        photo,
-        &Answers(5, &[1], &RISING_NODES),
-    )?;
-    let face = face_bytes(&rt, rt.alloc(), 2, &TWO_LEVELS, &TWO_PIXELS)?;
+    on_line(rt.alloc(), face, photo, &Answers(5, &[1], &RISING_NODES))?;
+    let face = face_bytes(rt.alloc(), 2, &TWO_LEVELS, &TWO_PIXELS)?;
     let photo = photo_bytes(rt.alloc(), b"P4 7 6\n", &SHIFTED)?;
-    on_line(
-        &rt,
-        rt.alloc(),
-        face,
-        photo,
-        &Answers(7, &[1], &SHIFTED_NODES),
-    )
+    on_line(rt.alloc(), face, photo, &Answers(7, &[1], &SHIFTED_NODES))
 }
 
 const FOUR_LEVELS: [Level; 4] = [Level(-1, 0), Level(5, 0), Level(-3, 0), Level(2, 0)];
@@ -115,10 +103,9 @@ const STAIR_NODES: [Placed; 28] = [
 // With several levels the bound takes the best pixels first, and the worst only where no row is free for a black pixel.
 #[test]
 fn each_number_of_black_pixels(rt: HostRuntime) -> Result<(), Fail> {
-    let face = face_bytes(&rt, rt.alloc(), 4, &FOUR_LEVELS, &FOUR_PIXELS)?;
+    let face = face_bytes(rt.alloc(), 4, &FOUR_LEVELS, &FOUR_PIXELS)?;
     let photo = photo_bytes(rt.alloc(), b"P4 9 8\n", &STAIR)?;
     on_line(
-        &rt,
         rt.alloc(),
         face,
         photo,
@@ -164,10 +151,9 @@ const WIDE_NODES: [Placed; 20] = [
 // Right of a photograph all is white, though its padding is black, and pixels there still have what they earn anywhere.
 #[test]
 fn right_of_the_photograph(rt: HostRuntime) -> Result<(), Fail> {
-    let face = face_bytes(&rt, rt.alloc(), 1, &[Level(5, -1), Level(-4, 2)], &WIDE)?;
+    let face = face_bytes(rt.alloc(), 1, &[Level(5, -1), Level(-4, 2)], &WIDE)?;
     let photo = photo_bytes(rt.alloc(), b"P4 3 5\n", &BLACK)?;
     on_line(
-        &rt,
         rt.alloc(),
         face,
         photo,

@@ -4,11 +4,11 @@ ghost use Rattle.face.specs.Verdict.{face_verdict};
 ghost use Rattle.printed.specs.Scored.{line_meaning};
 ghost use Rattle.scorer.specs.Meaning.{Meaning};
 
+use checks::check;
 use face::Face;
 use photo::Photograph;
 use printed::Printed;
 use std::alloc::Global;
-use std::process::Abort;
 use std::test::*;
 
 // What a pixel of a level earns over black, and what it earns wherever it lies.
@@ -26,7 +26,6 @@ pub(crate) struct Shape<'a>(
 
 // The bytes of a face.
 pub(crate) fn face_bytes(
-    rt: &impl Abort,
     heap: Global,
     height: u8,
     levels: &[Level],
@@ -34,7 +33,7 @@ pub(crate) fn face_bytes(
 ) -> Result<Vec<u8>, Fail>
     ensures { IfOk result (λ v. face_verdict v.items ≡ Ok tt) }
 {
-    assert!(rt; levels.len() <= 4 && shapes.len() <= 64);
+    check(levels.len() <= 4 && shapes.len() <= 64)?;
     let mut bytes = Vec::new(heap);
     bytes.extend_from_slice(&[shapes.len() as u8, 0, levels.len() as u8, height])?;
     for Level(gamma, beta) in levels {
@@ -83,13 +82,12 @@ pub(crate) fn photo_bytes(heap: Global, header: &[u8], rows: &[&[u8]]) -> Result
 pub(crate) trait Questions {
     ghost shown: { Self → Meaning → Type 0 } = { λ _ _. Unit {0} };
 
-    fn ask(&self, rt: &impl Abort, scorer: &Printed) -> Result<(), Fail>
+    fn ask(&self, scorer: &Printed) -> Result<(), Fail>
         ensures { OnOk result (shown self.now (line_meaning scorer.now.face.bytes.now scorer.now.photo)) };
 }
 
 // Makes the scorer of a face and a photograph, and asks.
 pub(crate) fn on_line<Q: Questions>(
-    rt: &impl Abort,
     heap: Global,
     face_bytes: Vec<u8>,
     photo_bytes: Vec<u8>,
@@ -109,5 +107,5 @@ pub(crate) fn on_line<Q: Questions>(
     let columns = printed::gather(heap, &face, &photograph)?;
     let tables = printed::tabulate(heap, &face)?;
     let scorer = Printed::new(face, photograph, &columns, &tables);
-    questions.ask(rt, &scorer)
+    questions.ask(&scorer)
 }

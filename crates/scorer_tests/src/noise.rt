@@ -3,10 +3,10 @@ ghost use Rattle.std.specs.Prelude.{◌≡◌, true, OnOk};
 ghost use Rattle.scorer_tests.specs.Told.{Alike};
 
 use super::making::{Level, Questions, Shape, face_bytes, on_line};
+use checks::{check, check_eq};
 use printed::Printed;
 use scorer::{PlacedScorer, Scorer, Window, check_window};
 use std::alloc::Global;
-use std::process::Abort;
 use std::test::*;
 
 // The number after `seed`.
@@ -38,7 +38,7 @@ const SHAPES: [Shape; 4] = [
 struct EveryNode;
 
 impl Questions for EveryNode {
-    fn ask(&self, rt: &impl Abort, scorer: &Printed) -> Result<(), Fail> {
+    fn ask(&self, scorer: &Printed) -> Result<(), Fail> {
         let mut found = 0usize;
         let mut apart = 0usize;
         for t in 0..4 {
@@ -48,8 +48,8 @@ impl Questions for EveryNode {
                     scorer.exact(x, t),
                     scorer.shift(x, t),
                 ) {
-                    assert!(rt; exact <= bound);
-                    assert!(rt; shift >= -2 && shift <= 2);
+                    check(exact <= bound)?;
+                    check(shift >= -2 && shift <= 2)?;
                     found = found.wrapping_add(1);
                     if exact < bound {
                         apart = apart.wrapping_add(1);
@@ -59,8 +59,8 @@ impl Questions for EveryNode {
         }
 
         // 61, 60, 57 and 55 nodes.
-        assert_eq!(rt; found, 233);
-        assert!(rt; apart >= 1 && apart < 172);
+        check_eq(found, 233)?;
+        check(apart >= 1 && apart < 172)?;
         Ok(())
     }
 }
@@ -68,8 +68,8 @@ impl Questions for EveryNode {
 // No exact score is above its bound, and some are below.
 #[test]
 fn exact_never_above_bound(rt: HostRuntime) -> Result<(), Fail> {
-    let face = face_bytes(&rt, rt.alloc(), 5, &LEVELS, &SHAPES)?;
-    on_line(&rt, rt.alloc(), face, noise(rt.alloc())?, &EveryNode)
+    let face = face_bytes(rt.alloc(), 5, &LEVELS, &SHAPES)?;
+    on_line(rt.alloc(), face, noise(rt.alloc())?, &EveryNode)
 }
 
 // Whether two answers are the same.
@@ -85,7 +85,6 @@ fn same(one: Option<i64>, other: Option<i64>) -> bool
 
 // Whether a column and a template of a window have the answers that are told `first` columns further on below.
 fn alike<S: PlacedScorer, W: PlacedScorer>(
-    rt: &impl Abort,
     window: &W,
     below: &S,
     first: usize,
@@ -94,28 +93,27 @@ fn alike<S: PlacedScorer, W: PlacedScorer>(
 ) -> Result<(), Fail>
     ensures { OnOk result (Alike (W.Scorer.meaning window.now) (S.Scorer.meaning below.now) first x t) }
 {
-    assert!(rt; first <= 61 && x <= 61);
-    assert!(rt; same(window.bound(x, t), below.bound(first + x, t)));
-    assert!(rt; same(window.exact(x, t), below.exact(first + x, t)));
-    assert_eq!(rt; window.shift(x, t), below.shift(first + x, t));
+    check(first <= 61 && x <= 61)?;
+    check(same(window.bound(x, t), below.bound(first + x, t)))?;
+    check(same(window.exact(x, t), below.exact(first + x, t)))?;
+    check_eq(window.shift(x, t), below.shift(first + x, t))?;
     Ok(())
 }
 
 // Compares all nodes of a window with those below, and tells how many there are.
 fn compare<S: PlacedScorer, W: PlacedScorer>(
-    rt: &impl Abort,
     window: &W,
     below: &S,
     first: usize,
 ) -> Result<usize, Fail>
     ensures { OnOk result ((W.Scorer.meaning window.now).count ≡ 4) }
 {
-    assert!(rt; window.count() == 4);
+    check(window.count() == 4)?;
     let mut found = 0usize;
     for t in 0..4 {
         for x in 0..61 {
             if window.exact(x, t).is_some() {
-                alike(rt, window, below, first, x, t)?;
+                alike(window, below, first, x, t)?;
                 found = found.wrapping_add(1);
             }
         }
@@ -126,21 +124,21 @@ fn compare<S: PlacedScorer, W: PlacedScorer>(
 struct EveryWindow;
 
 impl Questions for EveryWindow {
-    fn ask(&self, rt: &impl Abort, scorer: &Printed) -> Result<(), Fail> {
+    fn ask(&self, scorer: &Printed) -> Result<(), Fail> {
         for first in 0..52usize {
             let Ok(()) = check_window(&scorer, first, 10) else {
                 return Err(Fail::new("the window is refused"));
             };
             let window = Window::new(scorer, first, 10);
             // 10, 9, 6 and 4 nodes.
-            assert_eq!(rt; compare(rt, &window, scorer, first)?, 29);
+            check_eq(compare(&window, scorer, first)?, 29)?;
             let Ok(()) = check_window(&&window, 3, 6) else {
                 return Err(Fail::new("the window over the window is refused"));
             };
             // 6, 5, 2 and none.
-            assert_eq!(rt; compare(rt, &Window::new(&window, 3, 6), &window, 3)?, 13);
+            check_eq(compare(&Window::new(&window, 3, 6), &window, 3)?, 13)?;
         }
-        assert!(rt; check_window(&scorer, 52, 10).is_err());
+        check(check_window(&scorer, 52, 10).is_err())?;
         Ok(())
     }
 }
@@ -148,6 +146,6 @@ impl Questions for EveryWindow {
 // Every window of ten columns tells at each of its nodes what is told below, and so does a window over it.
 #[test]
 fn windows_as_below(rt: HostRuntime) -> Result<(), Fail> {
-    let face = face_bytes(&rt, rt.alloc(), 5, &LEVELS, &SHAPES)?;
-    on_line(&rt, rt.alloc(), face, noise(rt.alloc())?, &EveryWindow)
+    let face = face_bytes(rt.alloc(), 5, &LEVELS, &SHAPES)?;
+    on_line(rt.alloc(), face, noise(rt.alloc())?, &EveryWindow)
 }

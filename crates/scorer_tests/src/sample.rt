@@ -40,5 +40,5 @@ const NODES: [Placed; 19] = [
 fn the_sample(rt: HostRuntime) -> Result<(), Fail> {
     let face = FACE.to_vec(rt.alloc())?;
     let photo = PHOTO.to_vec(rt.alloc())?;
-    on_line(&rt, rt.alloc(), face, photo, &Answers(3, &[1, 2], &NODES))
+    on_line(rt.alloc(), face, photo, &Answers(3, &[1, 2], &NODES))
 }

@@ -1,23 +1,23 @@
 // Windows over a sheet, and a sheet that is lent.
 use super::asking::measures;
+use checks::check_eq;
 use scorer::{Scorer, Window, check_window};
 use sheet::Sheet;
 use std::alloc::Global;
-use std::process::Abort;
 use std::test::*;
 
 // A column and a template, with the bound and the exact score there.
 struct Scored(usize, usize, Option<(i64, i64)>);
 
 // Compares what is told of each column and template.
-fn scores<S: Scorer>(rt: &impl Abort, scorer: &S, cases: &[Scored]) -> Result<(), Fail> {
+fn scores<S: Scorer>(scorer: &S, cases: &[Scored]) -> Result<(), Fail> {
     for Scored(x, t, told) in cases {
         let (bound, exact) = match *told {
             Some((bound, exact)) => (Some(bound), Some(exact)),
             None => (None, None),
         };
-        assert_eq!(rt; (*x, *t, scorer.bound(*x, *t)), (*x, *t, bound));
-        assert_eq!(rt; (*x, *t, scorer.exact(*x, *t)), (*x, *t, exact));
+        check_eq((*x, *t, scorer.bound(*x, *t)), (*x, *t, bound))?;
+        check_eq((*x, *t, scorer.exact(*x, *t)), (*x, *t, exact))?;
     }
     Ok(())
 }
@@ -94,10 +94,10 @@ fn a_lent_sheet(rt: HostRuntime) -> Result<(), Fail> {
         return Err(Fail::new("the sheet is refused"));
     };
     let sheet = Sheet::new(&bytes);
-    measures(&rt, &&sheet, 4, &[1, 2])?;
-    scores(&rt, &&sheet, &LINE)?;
-    measures(&rt, &&&sheet, 4, &[1, 2])?;
-    scores(&rt, &&&sheet, &LINE)
+    measures(&&sheet, 4, &[1, 2])?;
+    scores(&&sheet, &LINE)?;
+    measures(&&&sheet, 4, &[1, 2])?;
+    scores(&&&sheet, &LINE)
 }
 
 // A window over a sheet tells what the sheet tells of its columns, and refuses what ends past the sheet.
@@ -112,14 +112,14 @@ fn a_window_over_a_sheet(rt: HostRuntime) -> Result<(), Fail> {
         return Err(Fail::new("the window is refused"));
     };
     let middle = Window::new(sheet, 1, 2);
-    measures(&rt, &middle, 2, &[1, 2])?;
-    scores(&rt, &middle, &MIDDLE)?;
+    measures(&middle, 2, &[1, 2])?;
+    scores(&middle, &MIDDLE)?;
     let Ok(()) = check_window(&middle, 1, 1) else {
         return Err(Fail::new("the window over the window is refused"));
     };
     let inner = Window::new(middle, 1, 1);
-    measures(&rt, &inner, 1, &[1, 2])?;
-    scores(&rt, &inner, &INNER)?;
+    measures(&inner, 1, &[1, 2])?;
+    scores(&inner, &INNER)?;
     let Err(refusal) = check_window(&sheet, 3, 2) else {
         return Err(Fail::new("a window is made past the sheet"));
     };
@@ -140,6 +140,6 @@ fn a_window_over_a_lent_sheet(rt: HostRuntime) -> Result<(), Fail> {
         return Err(Fail::new("the window is refused"));
     };
     let middle = Window::new(lent, 1, 2);
-    measures(&rt, &middle, 2, &[1, 2])?;
-    scores(&rt, &middle, &MIDDLE)
+    measures(&middle, 2, &[1, 2])?;
+    scores(&middle, &MIDDLE)
 }

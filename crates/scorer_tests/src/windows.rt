@@ -1,9 +1,10 @@
 // Windows over a printed scorer and over a sheet, held and lent, and windows over windows.
 use super::asking::{Placed, measures, nodes};
 use super::making::{Level, Questions, Shape, face_bytes, on_line, photo_bytes};
+use checks::check_eq;
 use printed::Printed;
 use scorer::{Scorer, Window, check_window};
-use std::process::Abort;
+use std::alloc::Global;
 use std::test::*;
 
 const SHAPES: [Shape; 3] = [
@@ -91,43 +92,43 @@ fn window<S: Scorer + Copy>(below: S, first: usize, width: usize) -> Result<Wind
 struct Windows;
 
 impl Questions for Windows {
-    fn ask(&self, rt: &impl Abort, scorer: &Printed) -> Result<(), Fail> {
+    fn ask(&self, scorer: &Printed) -> Result<(), Fail> {
         let setwidths = [1, 3, 6];
         let Ok(()) = check_window(scorer, 1, 5) else {
             return Err(Fail::new("the window is refused"));
         };
         let middle = Window::new(*scorer, 1, 5);
-        measures(rt, &middle, 5, &setwidths)?;
-        nodes(rt, &middle, &MIDDLE)?;
+        measures(&middle, 5, &setwidths)?;
+        nodes(&middle, &MIDDLE)?;
         let Ok(()) = check_window(&middle, 1, 3) else {
             return Err(Fail::new("the window over the window is refused"));
         };
         let inner = Window::new(middle, 1, 3);
-        measures(rt, &inner, 3, &setwidths)?;
-        nodes(rt, &inner, &INNER)
+        measures(&inner, 3, &setwidths)?;
+        nodes(&inner, &INNER)
     }
 }
 
 struct LentWindows;
 
 impl Questions for LentWindows {
-    fn ask(&self, rt: &impl Abort, scorer: &Printed) -> Result<(), Fail> {
+    fn ask(&self, scorer: &Printed) -> Result<(), Fail> {
         let setwidths = [1, 3, 6];
-        nodes(rt, scorer, &LINE)?;
+        nodes(scorer, &LINE)?;
         let whole = window(scorer, 0, 7)?;
-        measures(rt, &whole, 7, &setwidths)?;
-        nodes(rt, &whole, &LINE)?;
+        measures(&whole, 7, &setwidths)?;
+        nodes(&whole, &LINE)?;
         let last = window(scorer, 6, 1)?;
-        measures(rt, &last, 1, &setwidths)?;
-        nodes(rt, &last, &LAST)?;
+        measures(&last, 1, &setwidths)?;
+        nodes(&last, &LAST)?;
         let middle = window(scorer, 1, 5)?;
-        measures(rt, &middle, 5, &setwidths)?;
-        nodes(rt, &middle, &MIDDLE)?;
+        measures(&middle, 5, &setwidths)?;
+        nodes(&middle, &MIDDLE)?;
         let inner = window(&middle, 1, 3)?;
-        measures(rt, &inner, 3, &setwidths)?;
-        nodes(rt, &inner, &INNER)?;
-        measures(rt, &&inner, 3, &setwidths)?;
-        nodes(rt, &&inner, &INNER)
+        measures(&inner, 3, &setwidths)?;
+        nodes(&inner, &INNER)?;
+        measures(&&inner, 3, &setwidths)?;
+        nodes(&&inner, &INNER)
     }
 }
 
@@ -167,44 +168,44 @@ fn told<S: Scorer>(below: &S, first: usize, width: usize) -> (u8, usize) {
 struct Spans;
 
 impl Questions for Spans {
-    fn ask(&self, rt: &impl Abort, scorer: &Printed) -> Result<(), Fail> {
+    fn ask(&self, scorer: &Printed) -> Result<(), Fail> {
         for Span(first, width, number, place) in SPANS.iter() {
-            assert_eq!(rt; told(scorer, *first, *width), (*number, *place));
-            assert_eq!(rt; told(&scorer, *first, *width), (*number, *place));
+            check_eq(told(scorer, *first, *width), (*number, *place))?;
+            check_eq(told(&scorer, *first, *width), (*number, *place))?;
         }
 
         // Over a window its own width counts, and not the width below.
         let middle = window(scorer, 1, 5)?;
-        assert_eq!(rt; told(&middle, 0, 5), (0, 0));
-        assert_eq!(rt; told(&middle, 4, 1), (0, 0));
-        assert_eq!(rt; told(&middle, 0, 6), (41, 0));
-        assert_eq!(rt; told(&middle, 1, 5), (41, 1));
-        assert_eq!(rt; told(&middle, 5, 1), (41, 5));
+        check_eq(told(&middle, 0, 5), (0, 0))?;
+        check_eq(told(&middle, 4, 1), (0, 0))?;
+        check_eq(told(&middle, 0, 6), (41, 0))?;
+        check_eq(told(&middle, 1, 5), (41, 1))?;
+        check_eq(told(&middle, 5, 1), (41, 5))?;
         Ok(())
     }
 }
 
 // Asks of the line of seven columns.
-fn on_seven<Q: Questions>(rt: &(impl Abort + AllocGlobal), questions: &Q) -> Result<(), Fail> {
-    let face = face_bytes(rt, rt.alloc(), 2, &[Level(3, 0), Level(-2, 0)], &SHAPES)?;
-    let photo = photo_bytes(rt.alloc(), b"P4 7 6\n", &ROWS)?;
-    on_line(rt, rt.alloc(), face, photo, questions)
+fn on_seven<Q: Questions>(heap: Global, questions: &Q) -> Result<(), Fail> {
+    let face = face_bytes(heap, 2, &[Level(3, 0), Level(-2, 0)], &SHAPES)?;
+    let photo = photo_bytes(heap, b"P4 7 6\n", &ROWS)?;
+    on_line(heap, face, photo, questions)
 }
 
 // A window tells what is told below, of its own columns alone, and so does a window over it.
 #[test]
 fn windows_over_a_printed_scorer(rt: HostRuntime) -> Result<(), Fail> {
-    on_seven(&rt, &Windows)
+    on_seven(rt.alloc(), &Windows)
 }
 
 // The same holds where what is below is lent.
 #[test]
 fn windows_over_a_lent_scorer(rt: HostRuntime) -> Result<(), Fail> {
-    on_seven(&rt, &LentWindows)
+    on_seven(rt.alloc(), &LentWindows)
 }
 
 // A window has one column or more, and ends where the line below does or before.
 #[test]
 fn windows_refused(rt: HostRuntime) -> Result<(), Fail> {
-    on_seven(&rt, &Spans)
+    on_seven(rt.alloc(), &Spans)
 }

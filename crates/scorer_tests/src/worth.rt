@@ -2,7 +2,6 @@
 use super::asking::{Answers, Placed};
 use super::making::{Level, Shape, face_bytes, on_line, photo_bytes};
 use std::alloc::Global;
-use std::process::Abort;
 use std::test::*;
 
 const SIGNS: [Level; 4] = [Level(7, -3), Level(-2, 4), Level(1, 1), Level(-1, -1)];
@@ -61,10 +60,9 @@ const NODES: [Placed; 29] = [
 // A prior counts once, and a pixel earns wherever it lies and once more over black, with either sign of both.
 #[test]
 fn priors_and_levels_of_either_sign(rt: HostRuntime) -> Result<(), Fail> {
-    let face = face_bytes(&rt, rt.alloc(), 1, &SIGNS, &SHAPES)?;
+    let face = face_bytes(rt.alloc(), 1, &SIGNS, &SHAPES)?;
     let photo = photo_bytes(rt.alloc(), b"P4 4 5\n", &ROWS)?;
     on_line(
-        &rt,
         rt.alloc(),
         face,
         photo,
@@ -109,7 +107,7 @@ const LOWEST: [Placed; 9] = [
 ];
 
 // The largest box, with the greatest and the lowest of every number.
-fn largest(rt: &impl Abort, heap: Global, level: i16, nodes: &[Placed]) -> Result<(), Fail> {
+fn largest(heap: Global, level: i16, nodes: &[Placed]) -> Result<(), Fail> {
     let words = full_box(heap)?;
     let levels = [
         Level(level, level),
@@ -118,14 +116,14 @@ fn largest(rt: &impl Abort, heap: Global, level: i16, nodes: &[Placed]) -> Resul
         Level(level, level),
     ];
     let shapes = [Shape(1, 32, 0, &words), Shape(32, 32, -10_000, &words)];
-    let face = face_bytes(rt, heap, 32, &levels, &shapes)?;
+    let face = face_bytes(heap, 32, &levels, &shapes)?;
     let photo = photo_bytes(heap, b"P4 40 36\n", &HALF)?;
-    on_line(rt, heap, face, photo, &Answers(40, &[1, 32], nodes))
+    on_line(heap, face, photo, &Answers(40, &[1, 32], nodes))
 }
 
 // The largest box earns the greatest score over black, and loses the most there.
 #[test]
 fn the_greatest_and_the_lowest_score(rt: HostRuntime) -> Result<(), Fail> {
-    largest(&rt, rt.alloc(), 1_000, &GREATEST)?;
-    largest(&rt, rt.alloc(), -1_000, &LOWEST)
+    largest(rt.alloc(), 1_000, &GREATEST)?;
+    largest(rt.alloc(), -1_000, &LOWEST)
 }

@@ -1,5 +1,6 @@
 // A sheet to put faults into, and what the check tells of it.
-use std::process::Abort;
+use checks::check;
+use std::test::Fail;
 
 pub(crate) type Bytes = [u8; 55];
 
@@ -18,24 +19,18 @@ pub(crate) fn told(bytes: &[u8]) -> (u8, usize) {
 }
 
 // The sheet with four of its bytes replaced.
-pub(crate) fn with_four(rt: &impl Abort, mut sheet: Bytes, at: usize, four: [u8; 4]) -> Bytes {
-    assert!(rt; at <= 51);
+pub(crate) fn with_four(mut sheet: Bytes, at: usize, four: [u8; 4]) -> Result<Bytes, Fail> {
+    check(at <= 51)?;
     sheet[at] = four[0];
     sheet[at + 1] = four[1];
     sheet[at + 2] = four[2];
     sheet[at + 3] = four[3];
-    sheet
+    Ok(sheet)
 }
 
 // The sheet with other scores in the entry that begins at `at`.
-pub(crate) fn with_scores(
-    rt: &impl Abort,
-    sheet: Bytes,
-    at: usize,
-    exact: i32,
-    bound: i32,
-) -> Bytes {
-    assert!(rt; at <= 47);
-    let first = with_four(rt, sheet, at, exact.to_le_bytes());
-    with_four(rt, first, at + 4, bound.to_le_bytes())
+pub(crate) fn with_scores(sheet: Bytes, at: usize, exact: i32, bound: i32) -> Result<Bytes, Fail> {
+    check(at <= 47)?;
+    let first = with_four(sheet, at, exact.to_le_bytes())?;
+    with_four(first, at + 4, bound.to_le_bytes())
 }

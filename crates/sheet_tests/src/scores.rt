@@ -1,5 +1,6 @@
 // The scores of a sheet: each refusal with its place, and what is still lawful.
 use super::sample::{sample, told, with_scores};
+use std::test::Fail;
 
 // The exact score and the bound of one entry, and which number the check then tells.
 struct Scores(i32, i32, u8);
@@ -30,28 +31,30 @@ const SCORES: [Scores; 22] = [
 ];
 
 #[test]
-fn each_score_of_each_node(rt: HostRuntime) {
+fn each_score_of_each_node(rt: HostRuntime) -> Result<(), Fail> {
     for at in [6usize, 14, 22, 30, 38] {
         for Scores(exact, bound, number) in SCORES.iter() {
-            let sheet = with_scores(&rt, sample(), at, *exact, *bound);
+            let sheet = with_scores(sample(), at, *exact, *bound)?;
             let place = if *number == 0 { 0 } else { at };
             assert_eq!(rt; told(&sheet[0..54]), (*number, place));
         }
     }
+    Ok(())
 }
 
 #[test]
-fn no_node_may_hold_anything(rt: HostRuntime) {
+fn no_node_may_hold_anything(rt: HostRuntime) -> Result<(), Fail> {
     for Scores(exact, bound, _) in SCORES.iter() {
-        let sheet = with_scores(&rt, sample(), 46, *exact, *bound);
+        let sheet = with_scores(sample(), 46, *exact, *bound)?;
         assert_eq!(rt; told(&sheet[0..54]), (0, 0));
     }
+    Ok(())
 }
 
 // An entry is read or passed over by the setwidth of its template.
 #[test]
-fn setwidths_say_what_is_a_node(rt: HostRuntime) {
-    let mut sheet = with_scores(&rt, sample(), 38, i32::MAX, i32::MIN);
+fn setwidths_say_what_is_a_node(rt: HostRuntime) -> Result<(), Fail> {
+    let mut sheet = with_scores(sample(), 38, i32::MAX, i32::MIN)?;
     assert_eq!(rt; told(&sheet[0..54]), (35, 38));
     sheet[5] = 3;
     assert_eq!(rt; told(&sheet[0..54]), (0, 0));
@@ -60,27 +63,29 @@ fn setwidths_say_what_is_a_node(rt: HostRuntime) {
     let mut last = sample();
     last[5] = 1;
     assert_eq!(rt; told(&last[0..54]), (35, 46));
-    let mut ordered = with_scores(&rt, sample(), 22, 1, 0);
+    let mut ordered = with_scores(sample(), 22, 1, 0)?;
     assert_eq!(rt; told(&ordered[0..54]), (36, 22));
     ordered[4] = 2;
     assert_eq!(rt; told(&ordered[0..54]), (0, 0));
+    Ok(())
 }
 
 #[test]
-fn all_scores_come_before_any_order(rt: HostRuntime) {
-    let order = with_scores(&rt, sample(), 6, 1, 0);
+fn all_scores_come_before_any_order(rt: HostRuntime) -> Result<(), Fail> {
+    let order = with_scores(sample(), 6, 1, 0)?;
     assert_eq!(rt; told(&order[0..54]), (36, 6));
-    let later_score = with_scores(&rt, order, 38, 0, 4_000_001);
+    let later_score = with_scores(order, 38, 0, 4_000_001)?;
     assert_eq!(rt; told(&later_score[0..54]), (35, 38));
-    let earlier_score = with_scores(&rt, later_score, 30, -4_000_001, 0);
+    let earlier_score = with_scores(later_score, 30, -4_000_001, 0)?;
     assert_eq!(rt; told(&earlier_score[0..54]), (35, 30));
-    let later_order = with_scores(&rt, order, 30, 6, 5);
+    let later_order = with_scores(order, 30, 6, 5)?;
     assert_eq!(rt; told(&later_order[0..54]), (36, 6));
+    Ok(())
 }
 
 #[test]
-fn earlier_checks_hide_later_ones(rt: HostRuntime) {
-    let mut sheet = with_scores(&rt, sample(), 6, i32::MAX, 0);
+fn earlier_checks_hide_later_ones(rt: HostRuntime) -> Result<(), Fail> {
+    let mut sheet = with_scores(sample(), 6, i32::MAX, 0)?;
     assert_eq!(rt; told(&sheet[0..54]), (35, 6));
     sheet[5] = 65;
     assert_eq!(rt; told(&sheet[0..54]), (34, 5));
@@ -90,4 +95,5 @@ fn earlier_checks_hide_later_ones(rt: HostRuntime) {
     sheet[0] = 0;
     assert_eq!(rt; told(&sheet[0..53]), (32, 0));
     assert_eq!(rt; told(&sheet[0..3]), (31, 3));
+    Ok(())
 }
