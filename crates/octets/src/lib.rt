@@ -1,71 +1,63 @@
 // Numbers as the files hold them: low byte first, signed ones in two's complement.
-#![tactic(auto)]
+#![tactic(auto, using(crate::proofs::Chunks::chunk_index, std::proofs::lemmas::Bool::Decides::nat_tests), unfolding(crate::specs::Numbers::byte_at, crate::specs::Numbers::u16_at, crate::specs::Numbers::u32_at))]
 
-ghost use Rattle.std.specs.Prelude.{◌≡◌};
-ghost use Rattle.std.specs.Option.{unwrap_or};
+ghost use Rattle.std.specs.Prelude.{◌≡◌, ℕ, ◌+◌, List, length, nat_le};
+ghost use Rattle.std.specs.List.{between};
+ghost use Rattle.octets.specs.Absent.{present};
 ghost use Rattle.octets.specs.Numbers.{byte_at, u16_at, u32_at, i16_at, i32_at};
 
-// The byte at `at`, or 0 past the end.
-pub fn byte_at(bytes: &[u8], at: usize) -> u8
-    ensures { result ≡ byte_at bytes.now at }
-{
-    one_byte(bytes, at).unwrap_or(0)
+// A number that a file holds.
+pub trait Number: Copy {
+    ghost number_at: { List ℕ → ℕ → Self };
+
+    // The number whose first byte is the one at `at`, or 0 where the bytes end before it does.
+    fn at(bytes: &[u8], at: usize) -> Self
+        ensures { result ≡ number_at bytes.now at };
 }
 
-// The unsigned number of the two bytes at `at`, or 0 where the bytes end before it does.
-pub fn u16_at(bytes: &[u8], at: usize) -> u16
-    ensures { result ≡ u16_at bytes.now at }
-{
-    two_bytes(bytes, at).unwrap_or(0)
-}
+impl Number for u8 {
+    ghost number_at = { byte_at };
 
-// The unsigned number of the four bytes at `at`, or 0 where the bytes end before it does.
-pub fn u32_at(bytes: &[u8], at: usize) -> u32
-    ensures { result ≡ u32_at bytes.now at }
-{
-    four_bytes(bytes, at).unwrap_or(0)
-}
-
-// The signed number of the two bytes at `at`, or 0 where the bytes end before it does.
-pub fn i16_at(bytes: &[u8], at: usize) -> i16
-    ensures { result ≡ i16_at bytes.now at }
-{
-    u16_at(bytes, at).cast_signed()
-}
-
-// The signed number of the four bytes at `at`, or 0 where the bytes end before it does.
-pub fn i32_at(bytes: &[u8], at: usize) -> i32
-    ensures { result ≡ i32_at bytes.now at }
-{
-    u32_at(bytes, at).cast_signed()
-}
-
-fn one_byte(bytes: &[u8], at: usize) -> Option<u8>
-    ensures { unwrap_or result 0 ≡ byte_at bytes.now at }
-{
-    if at < bytes.len() {
-        Some(bytes[at])
-    } else {
-        None
+    fn at(bytes: &[u8], at: usize) -> u8 {
+        chunk_at(bytes, at).map_or(0, u8::from_le_bytes)
     }
 }
 
-fn two_bytes(bytes: &[u8], at: usize) -> Option<u16>
-    ensures { unwrap_or result 0 ≡ u16_at bytes.now at }
-{
-    if at < bytes.len() && bytes.len() - at >= 2 {
-        Some(u16::from_le_bytes([bytes[at], bytes[at + 1]]))
-    } else {
-        None
+impl Number for u16 {
+    ghost number_at = { u16_at };
+
+    fn at(bytes: &[u8], at: usize) -> u16 {
+        chunk_at(bytes, at).map_or(0, u16::from_le_bytes)
     }
 }
 
-fn four_bytes(bytes: &[u8], at: usize) -> Option<u32>
-    ensures { unwrap_or result 0 ≡ u32_at bytes.now at }
-{
-    if at < bytes.len() && bytes.len() - at >= 4 {
-        Some(u32::from_le_bytes([bytes[at], bytes[at + 1], bytes[at + 2], bytes[at + 3]]))
-    } else {
-        None
+impl Number for u32 {
+    ghost number_at = { u32_at };
+
+    fn at(bytes: &[u8], at: usize) -> u32 {
+        chunk_at(bytes, at).map_or(0, u32::from_le_bytes)
     }
+}
+
+impl Number for i16 {
+    ghost number_at = { i16_at };
+
+    fn at(bytes: &[u8], at: usize) -> i16 {
+        chunk_at(bytes, at).map_or(0, i16::from_le_bytes)
+    }
+}
+
+impl Number for i32 {
+    ghost number_at = { i32_at };
+
+    fn at(bytes: &[u8], at: usize) -> i32 {
+        chunk_at(bytes, at).map_or(0, i32::from_le_bytes)
+    }
+}
+
+// The `N` bytes from `at` on.
+fn chunk_at<const N: usize>(bytes: &[u8], at: usize) -> Option<[u8; N]>
+    ensures { result ≡ present (nat_le (at + N) (length bytes.now)) (between at (at + N) bytes.now) }
+{
+    bytes.get(at..)?.first_chunk().copied()
 }

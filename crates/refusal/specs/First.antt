@@ -38,6 +38,10 @@ refuse (Some k) e = Err (e k)
 abbrev pub ensure_each : ℕ → (ℕ → Bool) → (ℕ → Refusal) → Verdict
 ensure_each n test e = refuse (first_failing test 0 n) e
 
+-- of each of n things that is asked, the answer is what a function tells
+abbrev pub Tells : {X : Type 0} → ℕ → (ℕ → X → Type 0) → (ℕ → X) → Type 0
+Tells {X} n answers value = (i : ℕ) (x : X) → i < n → answers i x → x ≡ value i
+
 -- the first refusal of a list of checks
 abbrev pub first_refusal : List Verdict → Verdict
 first_refusal [] = Ok tt

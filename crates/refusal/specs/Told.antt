@@ -1,5 +1,6 @@
 -- What each refusal tells: its number, its place and its template. Assumes nothing.
-use Rattle.std.specs.Prelude.{ℕ, Some, None, Option}
+use Rattle.std.specs.Prelude.{ℕ, List, ◌++◌, Some, None, Option, codes}
+use Rattle.std.specs.Fmt.{decimal}
 use Rattle.refusal.specs.declared.Refusal.{Refusal}
 use Rattle.refusal.specs.declared.Refusal.TheVariants.{FaceUnreadable, PhotographUnreadable, FaceSize, FaceHead, FaceTruncated, FaceLevel, FaceTemplate, FaceLength, FaceWord, PhotographKind, PhotographHeader, PhotographMeasure, PhotographRaster, SheetTruncated, SheetHead, SheetLength, SheetSetwidth, SheetScore, SheetOrder, WindowBeyond, CellsTooFew, NoCompletePath, RadiusTooLarge, OtherScorer, ExactAboveStanding, NoNode, NotSettled, NoPathNode, OutOfMemory}
 
@@ -46,3 +47,11 @@ told (NoNode column template) = node 64 column template
 told NotSettled = at 71 0
 told (NoPathNode number) = at 72 number
 told OutOfMemory = record { number = None; place = 0; template = None }
+
+-- what is printed of a refusal: its number and its place; want of memory has no number
+abbrev printed_of : Option ℕ → ℕ → List ℕ
+printed_of (Some number) place = codes "REFUSED " ++ (decimal number ++ (codes " " ++ decimal place))
+printed_of None place = codes "out of memory"
+
+abbrev pub printed : Telling → List ℕ
+printed t = printed_of t.number t.place

@@ -1,15 +1,18 @@
 // Every refusal of the decoder: what went wrong, with its number, its place and, for two of them, the template.
 #![tactic(auto)]
 
-ghost use Rattle.std.specs.Prelude.{◌≡◌};
+ghost use Rattle.std.specs.Prelude.{◌≡◌, ℕ, ◌<◌, Bool, Some, IfSome};
 ghost use Rattle.refusal.specs.declared.Refusal.TheVariants.{OutOfMemory};
-ghost use Rattle.refusal.specs.First.{ensure as ensured};
-ghost use Rattle.refusal.specs.Told.{told};
+ghost use Rattle.refusal.specs.declared.Refusal.{Refusal};
+ghost use Rattle.refusal.specs.First.{ensure as ensured, ensure_each as ensured_each, first_failing, Tells};
+ghost use Rattle.refusal.specs.Told.{told, printed};
 
 use std::alloc::AllocError;
+use std::error::Error;
+use std::fmt;
 
 // Each case is named by what went wrong. A field is the refusal's place, unless it is called `template`.
-#[derive(Clone, Copy)]
+#[derive(Clone, Copy, Debug, PartialEq, Eq)]
 pub enum Refusal {
     // The program: a file that cannot be read.
     FaceUnreadable,
@@ -144,6 +147,36 @@ pub fn ensure(holds: bool, otherwise: Refusal) -> Result<(), Refusal>
     if holds { Ok(()) } else { Err(otherwise) }
 }
 
+// Refuses by `otherwise` of the first of `n` things that is not lawful, if there is one.
+pub fn ensure_each<L: Fn(usize) -> bool, O: Fn(usize) -> Refusal>(
+    n: usize,
+    lawful: L,
+    otherwise: O,
+) -> Result<(), Refusal>
+    requires lawful { (i : ℕ) → i < n → L.pre lawful i }
+    requires otherwise { (i : ℕ) → i < n → O.pre otherwise i }
+    ensures { (test : ℕ → Bool) (e : ℕ → Refusal) → Tells n (L.post lawful) test → Tells n (O.post otherwise) e → result ≡ ensured_each n test e }
+{
+    match first_unlawful(n, lawful) {
+        Some(i) => Err(otherwise(i)),
+        None => Ok(()),
+    }
+}
+
+// The first of `n` things that is not lawful.
+fn first_unlawful<L: Fn(usize) -> bool>(n: usize, lawful: L) -> Option<usize>
+    requires { (i : ℕ) → i < n → L.pre lawful i }
+    ensures value { (test : ℕ → Bool) → Tells n (L.post lawful) test → result ≡ first_failing test 0 n }
+    ensures within { IfSome result (λ i. i < n) }
+{
+    for i in 0..n {
+        if !lawful(i) {
+            return Some(i);
+        }
+    }
+    None
+}
+
 // Want of memory.
 impl From<AllocError> for Refusal {
     ghost from_gives = { λ _ r. r ≡ OutOfMemory };
@@ -152,3 +185,18 @@ impl From<AllocError> for Refusal {
         Self::OutOfMemory
     }
 }
+
+// What a program prints of a refusal.
+impl fmt::Display for Refusal {
+    ghost output = { λ e. Some (printed (told e)) };
+
+    fn fmt<W: fmt::Write>(&self, f: &mut fmt::Formatter<W>) -> fmt::Result {
+        let Some(number) = self.number() else {
+            return f.write_str("out of memory");
+        };
+        let place = self.place();
+        write!(f, "REFUSED {number} {place}")
+    }
+}
+
+impl Error for Refusal {}
