@@ -82,7 +82,7 @@ module _ (face : List ℕ) where
       (λ all j h. all (j / levels face) (j % levels face) (div_below j (levels face) (columns_before face (count face)) some (omega (arith, mul_comm (levels face) (columns_before face (count face))))) (mod_below j (levels face) some))
       (exactly_each (words face) (word_lawful face) _ (λ j. WordLaid face (j / levels face) (j % levels face)) (λ j _. decides_word_at j some))
 
-  exactly_head : Exactly (head_verdict face) (Headed face)
+  pub exactly_head : Exactly (head_verdict face) (Headed face)
   exactly_head =
       exactly_like (head_verdict face)
       (λ p. record { size = p.0.1; counted = p.1.0; levelled = p.1.1.0; high = p.1.1.1.0; there = p.1.1.1.1.0 })

@@ -1,5 +1,6 @@
 -- Where a face's bytes hold what. Assumes nothing.
-use Rattle.std.specs.Prelude.{ℕ, zero, suc, ◌+◌, ◌*◌, Bool, ◌&&◌, List, length, ℤ, pos, int_lt, nat_le}
+use Rattle.std.specs.Prelude.{ℕ, ◌+◌, ◌*◌, Bool, ◌&&◌, List, length, ℤ, pos, int_lt, nat_le, sum_by}
+use Rattle.std.specs.List.{range_with_len}
 use Rattle.octets.specs.Numbers.{byte_at, u16_at, u32_at, i16_at}
 
 -- the head: how many templates and levels, and the rows of a box
@@ -51,8 +52,7 @@ word_at face j = u32_at face (word_start face j)
 
 -- how many columns the boxes of the first t templates have together
 unfoldable pub columns_before : List ℕ → ℕ → ℕ
-columns_before face zero = 0
-columns_before face (suc t) = columns_before face t + box_width face t
+columns_before face t = sum_by (box_width face) (range_with_len 0 t)
 
 -- where a column begins, where columns are counted over all templates; and where those of template t do
 abbrev pub column_start : List ℕ → ℕ → ℕ

@@ -1,35 +1,70 @@
 // The checks of a face, in their order.
-ghost use Rattle.std.specs.Prelude.{◌≡◌, ℕ, ◌+◌, ◌-◌, ◌*◌, ◌%◌, ◌^◌, ◌<◌, ◌≤◌, Bool, length, OnOk};
-ghost use Rattle.octets.specs.Ranges.{from_to, signed_from_to};
+ghost use Rattle.std.specs.Prelude.{◌≡◌, ℕ, ◌+◌, ◌-◌, ◌*◌, ◌%◌, ◌^◌, ◌<◌, ◌≤◌, Bool, length, Ok};
 ghost use Rattle.refusal.specs.First.{each, first_failing, IsFirst, Exactly};
-ghost use Rattle.face.specs.Fields.{word_at, word_start, count, levels, height, level_start, template_start, columns_before, column_start};
+ghost use Rattle.face.specs.Fields.{word_at, word_start, count, levels, height, level_start, template_start, box_width, columns_before, column_start};
 ghost use Rattle.face.specs.Laid.{FaceLaid};
 ghost use Rattle.face.specs.Verdict.{spare_lawful, head_verdict, level_lawful, levels_verdict, template_lawful, templates_verdict, word_lawful, apart, words, length_verdict, words_verdict, checks_verdict, face_verdict, Headed};
 
-use octets::{byte_at, i16_at, u16_at, u32_at};
-use refusal::{Refusal, ensure};
+use octets::Number;
+use refusal::{Refusal, ensure, ensure_each};
 
 const SMALLEST: usize = 4;
 
 const LARGEST: usize = 65_536;
 
+// The bytes of a face whose head was checked.
+#[derive(Clone, Copy)]
+struct Head<'a> {
+    bytes: &'a [u8],
+    ghost headed: { Headed bytes.now },
+}
+
 // The size of the file, the three numbers of its head, and whether levels and templates are there.
 fn check_head(bytes: &[u8]) -> Result<(), Refusal>
-    ensures value { result ≡ head_verdict bytes.now }
-    ensures within { OnOk result (Headed bytes.now) }
+    ensures { result ≡ head_verdict bytes.now }
 {
     let length = bytes.len();
-    ensure(length >= SMALLEST && length <= LARGEST, Refusal::FaceSize)?;
-    let count = usize::from(u16_at(bytes, 0));
-    ensure(count >= 1 && count <= 64, Refusal::FaceHead { byte: 0 })?;
-    let levels = usize::from(byte_at(bytes, 2));
-    ensure(levels >= 1 && levels <= 4, Refusal::FaceHead { byte: 2 })?;
-    let height = byte_at(bytes, 3);
-    ensure(height >= 1 && height <= 32, Refusal::FaceHead { byte: 3 })?;
+    ensure((SMALLEST..=LARGEST).contains(&length), Refusal::FaceSize)?;
     ensure(
-        length >= 4 + 4 * levels + 8 * count,
+        (1..=64).contains(&count(bytes)),
+        Refusal::FaceHead { byte: 0 },
+    )?;
+    ensure(
+        (1..=4).contains(&levels(bytes)),
+        Refusal::FaceHead { byte: 2 },
+    )?;
+    ensure(
+        (1..=32).contains(&height(bytes)),
+        Refusal::FaceHead { byte: 3 },
+    )?;
+    ensure(
+        template_start(bytes, count(bytes)) <= length,
         Refusal::FaceTruncated { length },
     )
+}
+
+// How many templates there are.
+pub(crate) fn count(bytes: &[u8]) -> usize
+    ensures value { result ≡ count bytes.now }
+    ensures bound { result < 65536 }
+{
+    usize::from(u16::at(bytes, 0))
+}
+
+// How many levels a template has.
+pub(crate) fn levels(bytes: &[u8]) -> usize
+    ensures value { result ≡ levels bytes.now }
+    ensures bound { result < 256 }
+{
+    usize::from(u8::at(bytes, 2))
+}
+
+// How many rows a box has.
+pub(crate) fn height(bytes: &[u8]) -> usize
+    ensures value { result ≡ height bytes.now }
+    ensures bound { result < 256 }
+{
+    usize::from(u8::at(bytes, 3))
 }
 
 // The first byte of a level.
@@ -41,51 +76,13 @@ pub(crate) fn level_start(level: usize) -> usize
     4 + 4 * level
 }
 
-// Whether both weights of a level are in range.
-fn level_lawful(bytes: &[u8], level: usize) -> bool
-    requires { level < 256 }
-    ensures { result ≡ level_lawful bytes.now level }
-{
-    let at = level_start(level);
-    let gamma = i16_at(bytes, at);
-    let beta = i16_at(bytes, at + 2);
-    signed_from_to(-1_000, 1_000, gamma) && signed_from_to(-1_000, 1_000, beta)
-}
-
-fn check_levels(bytes: &[u8]) -> Result<(), Refusal>
-    ensures { result ≡ levels_verdict bytes.now }
-{
-    let levels = usize::from(byte_at(bytes, 2));
-    for l in 0..levels {
-        if !level_lawful(bytes, l) {
-            return Err(Refusal::FaceLevel {
-                byte: level_start(l),
-            });
-        }
-    }
-    Ok(())
-}
-
-// Whether a number of a template lies in its range.
-fn from_to(low: u8, high: u8, n: u8) -> bool
-    ensures { result ≡ from_to low high n }
-{
-    n >= low && n <= high
-}
-
-fn signed_from_to(low: i16, high: i16, n: i16) -> bool
-    ensures { result ≡ signed_from_to low high n }
-{
-    n >= low && n <= high
-}
-
 // The first byte of template `t`.
 pub(crate) fn template_start(bytes: &[u8], t: usize) -> usize
     requires { t < 65536 }
     ensures value { result ≡ template_start bytes.now t }
     ensures bound { result < 2 ^ 20 }
 {
-    4 + 4 * usize::from(byte_at(bytes, 2)) + 8 * t
+    4 + 4 * levels(bytes) + 8 * t
 }
 
 // The first byte of word `j` of all columns, counted from the first word of the first template.
@@ -93,7 +90,7 @@ pub(crate) fn word_start(bytes: &[u8], j: usize) -> usize
     requires { j < 2 ^ 32 }
     ensures { result ≡ word_start bytes.now j }
 {
-    template_start(bytes, usize::from(u16_at(bytes, 0))) + 4 * j
+    template_start(bytes, count(bytes)) + 4 * j
 }
 
 // The first byte of a column, where columns are counted over all templates.
@@ -101,42 +98,16 @@ pub(crate) fn column_start(bytes: &[u8], column: usize) -> usize
     requires { column ≤ 65536 }
     ensures { result ≡ column_start bytes.now column }
 {
-    word_start(bytes, usize::from(byte_at(bytes, 2)) * column)
+    word_start(bytes, levels(bytes) * column)
 }
 
-// Whether each field of a template is in range, and its spare bytes are 0.
-fn template_lawful(bytes: &[u8], t: usize) -> bool
+// How many columns the box of template `t` has.
+fn box_width(bytes: &[u8], t: usize) -> usize
     requires { t < 65536 }
-    ensures { result ≡ template_lawful bytes.now t }
+    ensures value { result ≡ box_width bytes.now t }
+    ensures bound { result < 256 }
 {
-    let at = template_start(bytes, t);
-    let name = from_to(33, 126, byte_at(bytes, at));
-    let setwidth = from_to(1, 64, byte_at(bytes, at + 1));
-    let box_width = byte_at(bytes, at + 2) <= 32;
-    let prior = signed_from_to(-10_000, 0, i16_at(bytes, at + 4));
-    name && setwidth && box_width && prior && spare_lawful(bytes, at)
-}
-
-// Whether the three spare bytes of the template that begins at `at` are 0.
-fn spare_lawful(bytes: &[u8], at: usize) -> bool
-    requires { at < 2 ^ 32 }
-    ensures { result ≡ spare_lawful bytes.now at }
-{
-    byte_at(bytes, at + 3) == 0 && byte_at(bytes, at + 6) == 0 && byte_at(bytes, at + 7) == 0
-}
-
-fn check_templates(bytes: &[u8]) -> Result<(), Refusal>
-    ensures { result ≡ templates_verdict bytes.now }
-{
-    let count = usize::from(u16_at(bytes, 0));
-    for t in 0..count {
-        if !template_lawful(bytes, t) {
-            return Err(Refusal::FaceTemplate {
-                byte: template_start(bytes, t),
-            });
-        }
-    }
-    Ok(())
+    usize::from(u8::at(bytes, template_start(bytes, t) + 2))
 }
 
 // How many columns the boxes of the first `t` templates have together.
@@ -145,25 +116,62 @@ pub(crate) fn columns_before(bytes: &[u8], t: usize) -> usize
     ensures value { result ≡ columns_before bytes.now t }
     ensures bound { result ≤ 255 * t }
 {
-    let mut columns = 0;
-    for i in 0..t {
-        columns += usize::from(byte_at(bytes, template_start(bytes, i) + 2));
-    }
-    columns
+    (0..t).map(|i| box_width(bytes, i)).sum()
 }
 
-// Whether word `j` has no pixel of any of the `earlier` words before it.
-fn word_apart(bytes: &[u8], j: usize, earlier: usize) -> bool
-    requires { (j < 2 ^ 32) × (earlier ≤ j) }
-    ensures { result ≡ each earlier (λ k. apart (word_at bytes.now j) (word_at bytes.now (j - (k + 1)))) }
+// Whether both weights of a level are in range.
+fn level_lawful(bytes: &[u8], level: usize) -> bool
+    requires { level < 256 }
+    ensures { result ≡ level_lawful bytes.now level }
 {
-    let word = word_at(bytes, j);
-    for k in 0..earlier {
-        if !disjoint(word, word_at(bytes, j - (k + 1))) {
-            return false;
-        }
-    }
-    true
+    let at = level_start(level);
+    let weights = -1_000..=1_000;
+    weights.contains(&i16::at(bytes, at)) && weights.contains(&i16::at(bytes, at + 2))
+}
+
+fn check_levels(bytes: &[u8]) -> Result<(), Refusal>
+    ensures { result ≡ levels_verdict bytes.now }
+{
+    ensure_each(
+        levels(bytes),
+        |l| level_lawful(bytes, l),
+        |l| Refusal::FaceLevel {
+            byte: level_start(l),
+        },
+    )
+}
+
+// Whether each field of a template is in range, and its spare bytes are 0.
+fn template_lawful(bytes: &[u8], t: usize) -> bool
+    requires { t < 65536 }
+    ensures { result ≡ template_lawful bytes.now t }
+{
+    let at = template_start(bytes, t);
+    let name = (33..=126).contains(&u8::at(bytes, at));
+    let setwidth = (1..=64).contains(&u8::at(bytes, at + 1));
+    let box_width = u8::at(bytes, at + 2) <= 32;
+    let prior = (-10_000..=0).contains(&i16::at(bytes, at + 4));
+    name && setwidth && box_width && prior && spare_lawful(bytes, at)
+}
+
+// Whether the three spare bytes of the template that begins at `at` are 0.
+fn spare_lawful(bytes: &[u8], at: usize) -> bool
+    requires { at < 2 ^ 32 }
+    ensures { result ≡ spare_lawful bytes.now at }
+{
+    u8::at(bytes, at + 3) == 0 && u8::at(bytes, at + 6) == 0 && u8::at(bytes, at + 7) == 0
+}
+
+fn check_templates(bytes: &[u8]) -> Result<(), Refusal>
+    ensures { result ≡ templates_verdict bytes.now }
+{
+    ensure_each(
+        count(bytes),
+        |t| template_lawful(bytes, t),
+        |t| Refusal::FaceTemplate {
+            byte: template_start(bytes, t),
+        },
+    )
 }
 
 // Whether two words have no pixel in common.
@@ -178,51 +186,66 @@ fn word_at(bytes: &[u8], j: usize) -> u32
     requires { j < 2 ^ 32 }
     ensures { result ≡ word_at bytes.now j }
 {
-    u32_at(bytes, word_start(bytes, j))
+    u32::at(bytes, word_start(bytes, j))
 }
 
-// Whether word `j` has no pixel below the box, and none that an earlier level of its column has.
-fn word_lawful(bytes: &[u8], j: usize) -> bool
-    requires { (j < 2 ^ 32) × (Headed bytes.now) }
-    ensures { result ≡ word_lawful bytes.now j }
-{
-    let levels = usize::from(byte_at(bytes, 2));
-    let below = 1u64 << byte_at(bytes, 3);
-    u64::from(word_at(bytes, j)) < below && word_apart(bytes, j, j % levels)
-}
-
-// How many words the columns of all boxes have.
-fn count_words(bytes: &[u8]) -> usize
-    requires { Headed bytes.now }
-    ensures value { result ≡ words bytes.now }
-    ensures bound { result < 2 ^ 32 }
-{
-    usize::from(byte_at(bytes, 2)) * columns_before(bytes, usize::from(u16_at(bytes, 0)))
-}
-
-fn check_length(bytes: &[u8]) -> Result<(), Refusal>
-    requires { Headed bytes.now }
-    ensures { result ≡ length_verdict bytes.now }
-{
-    let length = bytes.len();
-    ensure(
-        length == word_start(bytes, count_words(bytes)),
-        Refusal::FaceLength { length },
-    )
-}
-
-fn check_words(bytes: &[u8]) -> Result<(), Refusal>
-    requires { Headed bytes.now }
-    ensures { result ≡ words_verdict bytes.now }
-{
-    for j in 0..count_words(bytes) {
-        if !word_lawful(bytes, j) {
-            return Err(Refusal::FaceWord {
-                byte: word_start(bytes, j),
-            });
-        }
+impl<'a> Head<'a> {
+    // The head, once `check_head` refused nothing.
+    fn new(bytes: &'a [u8]) -> Head<'a>
+        requires { head_verdict bytes.now ≡ Ok tt }
+        ensures { result.bytes.now ≡ bytes.now }
+    {
+        Head { bytes }
     }
-    Ok(())
+
+    // How many words the columns of all boxes have.
+    fn words(&self) -> usize
+        ensures value { result ≡ words self.now.bytes.now }
+        ensures bound { result < 2 ^ 32 }
+    {
+        levels(self.bytes) * columns_before(self.bytes, count(self.bytes))
+    }
+
+    fn check_length(&self) -> Result<(), Refusal>
+        ensures { result ≡ length_verdict self.now.bytes.now }
+    {
+        let length = self.bytes.len();
+        ensure(
+            length == word_start(self.bytes, self.words()),
+            Refusal::FaceLength { length },
+        )
+    }
+
+    // Whether word `j` has no pixel of any of the `earlier` words before it.
+    fn word_apart(&self, j: usize, earlier: usize) -> bool
+        requires { (j < 2 ^ 32) × (earlier ≤ j) }
+        ensures { result ≡ each earlier (λ k. apart (word_at self.now.bytes.now j) (word_at self.now.bytes.now (j - (k + 1)))) }
+    {
+        let word = word_at(self.bytes, j);
+        (0..earlier).all(|k| disjoint(word, word_at(self.bytes, j - (k + 1))))
+    }
+
+    // Whether word `j` has no pixel below the box, and none that an earlier level of its column has.
+    fn word_lawful(&self, j: usize) -> bool
+        requires { j < 2 ^ 32 }
+        ensures { result ≡ word_lawful self.now.bytes.now j }
+    {
+        let below = 1u64 << height(self.bytes);
+        let inside = u64::from(word_at(self.bytes, j)) < below;
+        inside && self.word_apart(j, j % levels(self.bytes))
+    }
+
+    fn check_words(&self) -> Result<(), Refusal>
+        ensures { result ≡ words_verdict self.now.bytes.now }
+    {
+        ensure_each(
+            self.words(),
+            |j| self.word_lawful(j),
+            |j| Refusal::FaceWord {
+                byte: word_start(self.bytes, j),
+            },
+        )
+    }
 }
 
 // The first refusal, in the order of the checks.
@@ -232,8 +255,9 @@ fn first_refusal(bytes: &[u8]) -> Result<(), Refusal>
     check_head(bytes)?;
     check_levels(bytes)?;
     check_templates(bytes)?;
-    check_length(bytes)?;
-    check_words(bytes)
+    let head = Head::new(bytes);
+    head.check_length()?;
+    head.check_words()
 }
 
 // Does nothing: its contract is the laws that the verdict refuses nothing exactly if the layout holds, and

@@ -1,19 +1,19 @@
 // A face: the character templates by which a line is read, held as the bytes of its file.
 #![tactic(auto)]
 
-ghost use Rattle.std.specs.Prelude.{◌≡◌, ◌+◌, ◌^◌, ◌<◌, ◌≤◌, true, length, IfSome, is_ok, Ok, nat_lt};
+ghost use Rattle.std.specs.Prelude.{◌≡◌, ℕ, ◌+◌, ◌^◌, ◌<◌, ◌≤◌, true, Option, IfSome, is_ok, Ok, nat_lt};
 ghost use Rattle.std.specs.Option.{option_map};
 ghost use Rattle.std.specs.List.{between};
 ghost use Rattle.octets.specs.Absent.{present};
-ghost use Rattle.face.specs.Fields.{count as count_of, levels as levels_of, height as height_of, gamma as gamma_of, write_white, beta as beta_of, name as name_of, setwidth as setwidth_of, box_width, prior as prior_of, columns_start, column_start, columns_there, level_start, template_start};
+ghost use Rattle.face.specs.Fields.{count as count_of, levels as levels_of, height as height_of, gamma as gamma_of, write_white, beta as beta_of, name as name_of, setwidth as setwidth_of, box_width, prior as prior_of, columns_before as columns_before_of, columns_start, column_start, columns_there, level_start, template_start};
 ghost use Rattle.face.specs.Laid.{FaceLaid};
 ghost use Rattle.face.specs.Verdict.{face_verdict};
 
 mod checks;
 
 pub use checks::check;
-use checks::{column_start, columns_before, level_start, template_start, word_start};
-use octets::{byte_at, i16_at, u16_at};
+use checks::{column_start, columns_before, count, height, level_start, levels, template_start};
+use octets::Number;
 
 // A face that was checked.
 #[derive(Clone, Copy)]
@@ -37,7 +37,7 @@ impl<'a> Face<'a> {
         ensures within { (1 ≤ result) × (result ≤ 64) }
     {
         laid(self.bytes);
-        usize::from(u16_at(self.bytes, 0))
+        count(self.bytes)
     }
 
     // How many levels a template has.
@@ -46,7 +46,7 @@ impl<'a> Face<'a> {
         ensures within { (1 ≤ result) × (result ≤ 4) }
     {
         laid(self.bytes);
-        usize::from(byte_at(self.bytes, 2))
+        levels(self.bytes)
     }
 
     // How many rows a box has.
@@ -55,72 +55,67 @@ impl<'a> Face<'a> {
         ensures within { (1 ≤ result) × (result ≤ 32) }
     {
         laid(self.bytes);
-        usize::from(byte_at(self.bytes, 3))
+        height(self.bytes)
     }
 
     // What a pixel of the level earns over black.
     pub fn gamma(&self, level: usize) -> Option<i16>
         ensures { result ≡ present (nat_lt level (levels_of self.now.bytes.now)) (gamma_of self.now.bytes.now level) }
     {
-        let at = self.level_at(level)?;
-        Some(i16_at(self.bytes, at))
+        self.number(self.level_at(level), 0)
     }
 
     // Whether the level's pixels are to be white: a pixel over black costs. One that earns 0 there does not count.
     pub fn write_white(&self, level: usize) -> Option<bool>
         ensures { result ≡ present (nat_lt level (levels_of self.now.bytes.now)) (write_white self.now.bytes.now level) }
     {
-        let gamma = self.gamma(level)?;
-        Some(gamma < 0)
+        self.gamma(level).map(|gamma| gamma < 0)
     }
 
     // What a pixel of the level earns wherever it lies.
     pub fn beta(&self, level: usize) -> Option<i16>
         ensures { result ≡ present (nat_lt level (levels_of self.now.bytes.now)) (beta_of self.now.bytes.now level) }
     {
-        let at = self.level_at(level)?;
-        Some(i16_at(self.bytes, at + 2))
+        self.number(self.level_at(level), 2)
     }
 
     // The character that template `t` stands for.
     pub fn name(&self, t: usize) -> Option<u8>
         ensures { result ≡ present (nat_lt t (count_of self.now.bytes.now)) (name_of self.now.bytes.now t) }
     {
-        let at = self.template_at(t)?;
-        Some(byte_at(self.bytes, at))
+        self.number(self.template_at(t), 0)
     }
 
     // How many columns template `t` takes up on a line.
     pub fn setwidth(&self, t: usize) -> Option<u8>
         ensures { result ≡ present (nat_lt t (count_of self.now.bytes.now)) (setwidth_of self.now.bytes.now t) }
     {
-        let at = self.template_at(t)?;
-        Some(byte_at(self.bytes, at + 1))
+        self.number(self.template_at(t), 1)
     }
 
     // How many columns the box of template `t` has.
     pub fn box_width(&self, t: usize) -> Option<u8>
         ensures { result ≡ present (nat_lt t (count_of self.now.bytes.now)) (box_width self.now.bytes.now t) }
     {
-        let at = self.template_at(t)?;
-        Some(byte_at(self.bytes, at + 2))
+        self.number(self.template_at(t), 2)
     }
 
     // What template `t` costs wherever it stands.
     pub fn prior(&self, t: usize) -> Option<i16>
         ensures { result ≡ present (nat_lt t (count_of self.now.bytes.now)) (prior_of self.now.bytes.now t) }
     {
-        let at = self.template_at(t)?;
-        Some(i16_at(self.bytes, at + 4))
+        self.number(self.template_at(t), 4)
     }
 
     // The columns of template `t`, one word for each level of a column, as they lie in the face's own bytes.
     pub fn columns(&self, t: usize) -> Option<&'a [u8]>
         ensures { option_map (λ x. x.now) result ≡ present (nat_lt t (count_of self.now.bytes.now)) (between (columns_start self.now.bytes.now t) (columns_start self.now.bytes.now (t + 1)) self.now.bytes.now) }
     {
-        self.template_at(t)?;
-        let Stretch { start, end } = stretch_of(self.bytes, t);
-        Some(&self.bytes[start..end])
+        let width = self.box_width(t)?;
+        laid(self.bytes);
+        columns_law(self.bytes, t);
+        let first = columns_before(self.bytes, t);
+        self.columns_between(first, first + usize::from(width))
     }
 
     // The columns from `first` to before `end`, where columns are counted over all templates, as they lie in the face's
@@ -128,28 +123,20 @@ impl<'a> Face<'a> {
     pub fn columns_between(&self, first: usize, end: usize) -> Option<&'a [u8]>
         ensures { option_map (λ x. x.now) result ≡ present (columns_there self.now.bytes.now first end) (between (column_start self.now.bytes.now first) (column_start self.now.bytes.now end) self.now.bytes.now) }
     {
-        let Stretch { start, end } = self.stretch_between(first, end)?;
-        Some(&self.bytes[start..end])
-    }
-
-    // The stretch of the bytes that holds the columns from `first` to before `end`.
-    fn stretch_between(&self, first: usize, end: usize) -> Option<Stretch>
-        ensures value { result ≡ present (columns_there self.now.bytes.now first end) (record { start = column_start self.now.bytes.now first; end = column_start self.now.bytes.now end }) }
-        ensures within { IfSome result (λ s. (s.start ≤ s.end) × (s.end ≤ length self.now.bytes.now)) }
-    {
         laid(self.bytes);
         if first > end || end > self.bytes.len() {
             return None;
         }
-        let stretch = Stretch {
-            start: column_start(self.bytes, first),
-            end: column_start(self.bytes, end),
-        };
-        if stretch.end <= self.bytes.len() {
-            Some(stretch)
-        } else {
-            None
-        }
+        let start = column_start(self.bytes, first);
+        self.bytes.get(start..column_start(self.bytes, end))
+    }
+
+    // The number that stands `offset` bytes after a first one.
+    fn number<N: Number>(&self, start: Option<usize>, offset: usize) -> Option<N>
+        requires { (IfSome start (λ at. at < 2 ^ 20)) × (offset < 8) }
+        ensures { result ≡ option_map (λ at. N.number_at self.now.bytes.now (at + offset)) start }
+    {
+        start.map(|at| N::at(self.bytes, at + offset))
     }
 
     // The first byte of a level.
@@ -183,27 +170,9 @@ fn laid(bytes: &[u8])
     ensures { FaceLaid bytes.now }
 {}
 
-// Where the columns of a template begin, and where they end.
-#[derive(Clone, Copy)]
-struct Stretch {
-    start: usize,
-    end: usize,
-}
-
-// The stretch of the bytes that holds the columns of template `t`.
-fn stretch_of(bytes: &[u8], t: usize) -> Stretch
+// Does nothing: its contract is the law that the columns of a template follow those of the templates before it, and are there.
+fn columns_law(bytes: &[u8], t: usize)
     requires { (is_ok (face_verdict bytes.now) ≡ true) × (t < count_of bytes.now) }
-    ensures start { result.start ≡ columns_start bytes.now t }
-    ensures end { result.end ≡ columns_start bytes.now (t + 1) }
-    ensures within { (result.start ≤ result.end) × (result.end ≤ length bytes.now) }
-{
-    laid(bytes);
-    let levels = usize::from(byte_at(bytes, 2));
-    let before = columns_before(bytes, t);
-    let width = usize::from(byte_at(bytes, template_start(bytes, t) + 2));
-    let start = word_start(bytes, levels * before);
-    Stretch {
-        start,
-        end: start + 4 * (levels * width),
-    }
-}
+    ensures follow { columns_before_of bytes.now (t + 1) ≡ columns_before_of bytes.now t + box_width bytes.now t }
+    ensures there { columns_there bytes.now (columns_before_of bytes.now t) (columns_before_of bytes.now (t + 1)) ≡ true }
+{}

@@ -1,6 +1,9 @@
 -- Laws of the first refusal. Assumes nothing.
-use Rattle.std.proofs.Common.{◌≡◌, ℕ, zero, suc, ◌+◌, ◌-◌, ◌<◌, ◌≤◌, Bool, true, false, cond, not, ◌⊎◌, List, [], ◌∷◌, is_some, is_ok, Some, None, Ok, Err, Decides, Option, Result, sym, refl, ap, ◌∙◌, subst, ⊎_elim, arith}
-use Rattle.std.proofs.lemmas.Bool.{cases_Bool, cond-true, cond-false, false≢true}
+use Rattle.std.proofs.Common.{◌≡◌, ℕ, zero, suc, ◌+◌, ◌-◌, ◌<◌, ◌≤◌, Bool, true, false, cond, not, ◌⊎◌, List, [], ◌∷◌, is_some, is_ok, Some, None, Ok, Err, Decides, Option, Result, get_or, sym, refl, ap, ◌∙◌, subst, ⊎_elim, arith}
+use Rattle.std.proofs.lemmas.Bool.{cases_Bool, cond-true, cond-false, false≢true, and_parts, and_from}
+use Rattle.std.proofs.lemmas.List.FromFn.{length-range_with_len, get_or-range_with_len}
+use Rattle.std.proofs.lemmas.List.Sums.{AllPass-from_list_all, list_all-from_AllPass}
+use Rattle.std.specs.List.{range_with_len}
 use Rattle.refusal.specs.declared.Refusal.{Refusal}
 use Rattle.refusal.specs.First.{Verdict, ensure, refuse, each, ensure_each, first_refusal, first_failing, IsFirst, Exactly, after}
 
@@ -31,12 +34,6 @@ refuse_some e k p = sym (ap (λ o. refuse o e) p)
 
 pub refuse_none : {o : Option ℕ} (e : ℕ → Refusal) → o ≡ None → Ok tt ≡ refuse o e
 refuse_none e p = sym (ap (λ o. refuse o e) p)
-
-pub each_some : {o : Option ℕ} (k : ℕ) → o ≡ Some k → false ≡ not (is_some o)
-each_some k p = sym (ap (λ o. not (is_some o)) p)
-
-pub each_none : {o : Option ℕ} → o ≡ None → true ≡ not (is_some o)
-each_none p = sym (ap (λ o. not (is_some o)) p)
 
 -- among n things from i on
 abbrev From : (ℕ → Bool) → ℕ → ℕ → Option ℕ → Type 0
@@ -76,19 +73,19 @@ is_from test n (Some k) h = (omega arith, h.2, λ i low. h.3 i (omega arith) low
 pub first_is : (test : ℕ → Bool) (n : ℕ) → IsFirst test n (first_failing test 0 n)
 first_is test n = is_from test n (first_failing test 0 n) (from_is test 0 n)
 
-pub all_from_each : (n : ℕ) (test : ℕ → Bool) → each n test ≡ true → (i : ℕ) → i < n → test i ≡ true
-all_from_each n test h = by (first_failing test 0 n) (first_is test n) h
-  where
-    by : (o : Option ℕ) → IsFirst test n o → not (is_some o) ≡ true → (i : ℕ) → i < n → test i ≡ true
-    by None f h = f
-    by (Some k) f h = absurd (false≢true h)
+module _ (n : ℕ) (test : ℕ → Bool) where
+  all_from_each : each n test ≡ true → (i : ℕ) → i < n → test i ≡ true
+  all_from_each h i low =
+      let at : get_or (range_with_len 0 n) i 0 ≡ i = omega (arith, get_or-range_with_len 0 n i 0 low) in
+      subst (λ q. test q ≡ true) at
+      (AllPass-from_list_all test (range_with_len 0 n) h i 0 (omega (arith, length-range_with_len 0 n)))
 
-pub each_from_all : (n : ℕ) (test : ℕ → Bool) → ((i : ℕ) → i < n → test i ≡ true) → each n test ≡ true
-each_from_all n test all = by (first_failing test 0 n) (first_is test n)
-  where
-    by : (o : Option ℕ) → IsFirst test n o → not (is_some o) ≡ true
-    by None f = refl
-    by (Some k) f = absurd (false≢true (sym f.1 ∙ all k f.0))
+  each_from_all : ((i : ℕ) → i < n → test i ≡ true) → each n test ≡ true
+  each_from_all all =
+      list_all-from_AllPass test (range_with_len 0 n) (λ i d low.
+      let below : i < n = omega (arith, length-range_with_len 0 n) in
+      let at : i ≡ get_or (range_with_len 0 n) i d = omega (arith, get_or-range_with_len 0 n i d below) in
+      subst (λ q. test q ≡ true) at (all i below))
 
 pub decides_each : (n : ℕ) (test : ℕ → Bool) (P : ℕ → Type 0) → ((i : ℕ) → i < n → Decides (test i) (P i)) → Decides (each n test) ((i : ℕ) → i < n → P i)
 decides_each n test P f = (

@@ -1,5 +1,6 @@
 -- A file is judged by checks in a fixed order, and the first that fails refuses it. Assumes nothing.
-use Rattle.std.specs.Prelude.{◌≡◌, ℕ, zero, suc, ◌+◌, ◌<◌, Bool, true, false, cond, not, List, [], ◌∷◌, is_some, Some, None, Ok, Err, Option, Result}
+use Rattle.std.specs.Prelude.{◌≡◌, ℕ, zero, suc, ◌+◌, ◌<◌, Bool, true, false, cond, List, [], ◌∷◌, Some, None, Ok, Err, Option, Result}
+use Rattle.std.specs.List.{list_all, range_with_len}
 use Rattle.refusal.specs.declared.Refusal.{Refusal}
 
 -- what a check answers that yields nothing
@@ -28,7 +29,7 @@ IsFirst test n (Some k) = (k < n) × (test k ≡ false) × ((i : ℕ) → i < k 
 
 -- each of n things passes
 abbrev pub each : ℕ → (ℕ → Bool) → Bool
-each n test = not (is_some (first_failing test 0 n))
+each n test = list_all test (range_with_len 0 n)
 
 -- each of n things passes, or the first that fails is refused
 abbrev pub refuse : Option ℕ → (ℕ → Refusal) → Verdict
