@@ -9,11 +9,10 @@ use Rattle.octets.proofs.Ranges.{decides_from_to}
 use Rattle.refusal.specs.declared.Refusal.{Refusal}
 use Rattle.refusal.specs.declared.Refusal.TheVariants.{PhotographKind, PhotographMeasure, PhotographRaster}
 use Rattle.refusal.proofs.First.{after_elim, after_ensure, after_ok, after_met}
-use Rattle.photo.specs.declared.scan.Class.TheVariants.{White, Digit}
 use Rattle.photo.specs.declared.scan.Header.{Header}
 use Rattle.photo.specs.declared.scan.Number.{Number}
 use Rattle.photo.specs.declared.scan.Scan.{Scan}
-use Rattle.photo.specs.Header.{white, run_end, decimal, scan_white, scan_number, scan_one_white, scan_header}
+use Rattle.photo.specs.Header.{white, digit, run_end, decimal, scan_white, digit, scan_number, scan_one_white, digit, scan_header}
 use Rattle.photo.specs.Laid.{Gap, Numeral, PhotographLaid, TellsExactly}
 use Rattle.photo.specs.Verdict.{kind, stride, checks_verdict, photo_verdict, told_header, header_of}
 use Rattle.photo.proofs.Runs.{run_all}
@@ -29,19 +28,19 @@ front_two (x ∷ y ∷ zs) long a b = λ i. a i ∷ b i ∷ zs
 pub record Marks (photo : List ℕ) (s : Scan) : Type 0 where
   pub w : ℕ
   pub h : ℕ
-  pub w_is : w ≡ run_end White photo 2
+  pub w_is : w ≡ run_end white photo 2
   pub w_some : 2 < w
   pub width_is : s.width ≡ number_at photo w
-  pub width_some : w < run_end Digit photo w
-  pub width_few : run_end Digit photo w - w ≤ 5
-  pub h_is : h ≡ run_end White photo (run_end Digit photo w)
-  pub h_some : run_end Digit photo w < h
+  pub width_some : w < run_end digit photo w
+  pub width_few : run_end digit photo w - w ≤ 5
+  pub h_is : h ≡ run_end white photo (run_end digit photo w)
+  pub h_some : run_end digit photo w < h
   pub height_is : s.height ≡ number_at photo h
-  pub height_some : h < run_end Digit photo h
-  pub height_few : run_end Digit photo h - h ≤ 5
-  pub last_there : run_end Digit photo h < length photo
-  pub last_white : white (get_or photo (run_end Digit photo h) 0) ≡ true
-  pub raster_is : s.raster ≡ run_end Digit photo h + 1
+  pub height_some : h < run_end digit photo h
+  pub height_few : run_end digit photo h - h ≤ 5
+  pub last_there : run_end digit photo h < length photo
+  pub last_white : white (get_or photo (run_end digit photo h) 0) ≡ true
+  pub raster_is : s.raster ≡ run_end digit photo h + 1
 
 module _ (photo : List ℕ) where
   marked : (s : Scan) (w : ℕ) (width : Number) (h : ℕ) (height : Number) (r : ℕ) → scan_white photo 2 ≡ Ok w → scan_number photo w ≡ Ok width → scan_white photo width.end ≡ Ok h → scan_number photo h ≡ Ok height → scan_one_white photo height.end ≡ Ok r → ◌≡◌ {A = Result Scan Refusal} (Ok (record { width = width; height = height; raster = r })) (Ok s) → Marks photo s
@@ -52,8 +51,8 @@ module _ (photo : List ℕ) where
       let pc = white_parts photo width.end h c in
       let pd = number_parts photo h height d in
       let pf = one_parts photo height.end r f in
-      let wide : width.end ≡ run_end Digit photo w = ap (λ n. n.end) pb.0 in
-      let high : height.end ≡ run_end Digit photo h = ap (λ n. n.end) pd.0 in
+      let wide : width.end ≡ run_end digit photo w = ap (λ n. n.end) pb.0 in
+      let high : height.end ≡ run_end digit photo h = ap (λ n. n.end) pd.0 in
       record {
         w = w;
         h = h;
@@ -62,7 +61,7 @@ module _ (photo : List ℕ) where
         width_is = ap (λ s. s.width) (sym same) ∙ pb.0;
         width_some = pb.1;
         width_few = pb.2;
-        h_is = pc.0 ∙ ap (run_end White photo) wide;
+        h_is = pc.0 ∙ ap (run_end white photo) wide;
         h_some = subst (λ q. q < h) wide pc.1;
         height_is = ap (λ s. s.height) (sym same) ∙ pd.0;
         height_some = pd.1;
@@ -82,37 +81,37 @@ module _ (photo : List ℕ) where
       marked s w width h height r a b c d f e₅)))))
 
   -- the pieces that the marks cut the bytes into
-  cut : (s : Scan) → 2 ≤ length photo → (m : Marks photo s) → drop 2 photo ≡ between 2 m.w photo ++ (between m.w (run_end Digit photo m.w) photo ++ (between (run_end Digit photo m.w) m.h photo ++ (between m.h (run_end Digit photo m.h) photo ++ (get_or photo (run_end Digit photo m.h) 0 ∷ drop s.raster photo))))
+  cut : (s : Scan) → 2 ≤ length photo → (m : Marks photo s) → drop 2 photo ≡ between 2 m.w photo ++ (between m.w (run_end digit photo m.w) photo ++ (between (run_end digit photo m.w) m.h photo ++ (between m.h (run_end digit photo m.h) photo ++ (get_or photo (run_end digit photo m.h) 0 ∷ drop s.raster photo))))
   cut s long m =
       let w = m.w in
-      let e = run_end Digit photo w in
+      let e = run_end digit photo w in
       let h = m.h in
-      let f = run_end Digit photo h in
-      let one = subst (λ q. drop 2 photo ≡ between 2 q photo ++ drop q photo) (sym m.w_is) (run_splits photo 2 White long) in
-      let in-w : w ≤ length photo = omega (arith, m.w_is, run_within photo 2 White long) in
-      let two = run_splits photo w Digit in-w in
-      let in_e : e ≤ length photo = omega (arith, run_within photo w Digit in-w) in
-      let three = subst (λ q. drop e photo ≡ between e q photo ++ drop q photo) (sym m.h_is) (run_splits photo e White in_e) in
-      let in-h : h ≤ length photo = omega (arith, m.h_is, run_within photo e White in_e) in
-      let four = run_splits photo h Digit in-h in
+      let f = run_end digit photo h in
+      let one = subst (λ q. drop 2 photo ≡ between 2 q photo ++ drop q photo) (sym m.w_is) (run_splits photo 2 white long) in
+      let in-w : w ≤ length photo = omega (arith, m.w_is, run_within photo 2 white long) in
+      let two = run_splits photo w digit in-w in
+      let in_e : e ≤ length photo = omega (arith, run_within photo w digit in-w) in
+      let three = subst (λ q. drop e photo ≡ between e q photo ++ drop q photo) (sym m.h_is) (run_splits photo e white in_e) in
+      let in-h : h ≤ length photo = omega (arith, m.h_is, run_within photo e white in_e) in
+      let four = run_splits photo h digit in-h in
       let five : drop f photo ≡ get_or photo f 0 ∷ drop s.raster photo = drop_more photo f 0 m.last_there ∙ ap (λ q. get_or photo f 0 ∷ drop q photo) (sym m.raster_is) in
       one ∙ ap (λ l. between 2 w photo ++ l) (two ∙ ap (λ l. between w e photo ++ l) (three ∙ ap (λ l. between e h photo ++ l) (four ∙ ap (λ l. between h f photo ++ l) five)))
 
   run_long : (i e : ℕ) → i ≤ e → e ≤ length photo → length (between i e photo) ≡ e - i
   run_long i e low high = simp (length-take, length-drop) (omega arith)
 
-  gap_from : (i e : ℕ) → i ≤ length photo → e ≡ run_end White photo i → i < e → Gap (between i e photo)
+  gap_from : (i e : ℕ) → i ≤ length photo → e ≡ run_end white photo i → i < e → Gap (between i e photo)
   gap_from i e in-i is some =
-      let high : e ≤ length photo = omega (arith, run_within photo i White in-i) in
+      let high : e ≤ length photo = omega (arith, run_within photo i white in-i) in
       record {
         some = omega (arith, run_long i e (omega arith) high);
-        all_white = subst (λ q. AllByRecursion (λ c. white c ≡ true) (between i q photo)) (sym is) (run_all White photo i);
+        all_white = subst (λ q. AllByRecursion (λ c. white c ≡ true) (between i q photo)) (sym is) (run_all white photo i);
       }
 
-  numeral_from : (i : ℕ) → i ≤ length photo → i < run_end Digit photo i → run_end Digit photo i - i ≤ 5 → Numeral (between i (run_end Digit photo i) photo)
+  numeral_from : (i : ℕ) → i ≤ length photo → i < run_end digit photo i → run_end digit photo i - i ≤ 5 → Numeral (between i (run_end digit photo i) photo)
   numeral_from i in-i some few =
-      let size = run_long i (run_end Digit photo i) (omega arith) (run_within photo i Digit in-i).1 in
-      record { some = omega arith; few = omega arith; all_digits = run_all Digit photo i }
+      let size = run_long i (run_end digit photo i) (omega arith) (run_within photo i digit in-i).1 in
+      record { some = omega arith; few = omega arith; all_digits = run_all digit photo i }
 
   -- what was scanned and passed the checks of its numbers is laid out so
   laid_from : (rows : ℕ) (s : Scan) (h : Header) → kind photo ≡ true → Marks photo s → from_to 1 2048 s.width.value ≡ true → eqb s.height.value rows ≡ true → eqb (length photo - s.raster) (rows * stride s.width.value) ≡ true → record { width = s.width.value; raster = s.raster } ≡ h → PhotographLaid photo rows h
@@ -121,11 +120,11 @@ module _ (photo : List ℕ) where
       let kt = and_parts (from_to 2 16384 (length photo)) (eqb (byte_at photo 0) 80) ks.0 in
       let size = (decides_from_to 2 16384 (length photo)).0 kt.0 in
       let w = m.w in
-      let e = run_end Digit photo w in
-      let f = run_end Digit photo m.h in
-      let in-w : w ≤ length photo = omega (arith, m.w_is, run_within photo 2 White size.0) in
-      let in_e : e ≤ length photo = omega (arith, run_within photo w Digit in-w) in
-      let in-h : m.h ≤ length photo = omega (arith, m.h_is, run_within photo e White in_e) in
+      let e = run_end digit photo w in
+      let f = run_end digit photo m.h in
+      let in-w : w ≤ length photo = omega (arith, m.w_is, run_within photo 2 white size.0) in
+      let in_e : e ≤ length photo = omega (arith, run_within photo w digit in-w) in
+      let in-h : m.h ≤ length photo = omega (arith, m.h_is, run_within photo e white in_e) in
       let wide : s.width.value ≡ h.width = ap (λ h. h.width) same in
       let from : s.raster ≡ h.raster = ap (λ h. h.raster) same in
       let rest = length-drop s.raster photo in
@@ -193,14 +192,14 @@ module _ (photo g₁ d₁ g₂ d₂ : List ℕ) (last : ℕ) (rb : List ℕ) (pi
   at₄ = at₃ ∙ sym (append_assoc f₃ d₂ (last ∷ rb))
 
   -- a gap and a number that stand where a scan comes to
-  gap_scanned : (front run rest : List ℕ) → photo ≡ front ++ (run ++ rest) → Gap run → Ends White rest → scan_white photo (length front) ≡ Ok (length (front ++ run))
+  gap_scanned : (front run rest : List ℕ) → photo ≡ front ++ (run ++ rest) → Gap run → Ends white rest → scan_white photo (length front) ≡ Ok (length (front ++ run))
   gap_scanned front run rest e gap ends =
-      let there = run_there White photo front run rest e gap.all_white ends in
+      let there = run_there white photo front run rest e gap.all_white ends in
       white_is photo (length front) (omega (arith, there.0, length-append front run, gap.some)) ∙ ap (λ n. Ok n) there.0
 
-  numeral_scanned : (front run rest : List ℕ) → photo ≡ front ++ (run ++ rest) → Numeral run → Ends Digit rest → scan_number photo (length front) ≡ Ok (record { value = decimal run; start = length front; end = length (front ++ run) })
+  numeral_scanned : (front run rest : List ℕ) → photo ≡ front ++ (run ++ rest) → Numeral run → Ends digit rest → scan_number photo (length front) ≡ Ok (record { value = decimal run; start = length front; end = length (front ++ run) })
   numeral_scanned front run rest e num ends =
-      let there = run_there Digit photo front run rest e num.all_digits ends in
+      let there = run_there digit photo front run rest e num.all_digits ends in
       let long = length-append front run in
       number_is photo (length front) (omega (arith, there.0, num.some)) (omega (arith, there.0, num.few))
       ∙ (λ k. Ok (record { value = decimal (there.1 k); start = length front; end = there.0 k }))

@@ -1,28 +1,19 @@
 -- Runs of bytes of one class, and the number that digits write. Assumes nothing.
-use Rattle.std.proofs.Common.{◌≡◌, ℕ, ◌+◌, ◌-◌, ◌*◌, ◌^◌, ◌<◌, ◌≤◌, Bool, true, false, leb, List, [], ◌∷◌, map, length, get_or, take, drop, sym, ap, ◌∙◌, subst, ⊎_elim, one-add, arith}
+use Rattle.std.proofs.Common.{◌≡◌, ℕ, ◌+◌, ◌-◌, ◌*◌, ◌^◌, ◌<◌, ◌≤◌, Bool, true, leb, List, [], ◌∷◌, map, length, get_or, take, drop, sym, ap, ◌∙◌, subst, ⊎_elim, one-add, arith}
 use native.Mathlib.Nat.{pow-le-pow_right}
 use Rattle.std.proofs.ByRecursion.{All-map, All-take, All-weaker}
 use Rattle.std.proofs.lemmas.Int.Digits.{number_more, number_lt}
 use Rattle.std.proofs.lemmas.List.{get_or-map, take-map, length-map, length-take}
 use Rattle.std.proofs.lemmas.Bool.{and_parts, leb-true, cases_Bool, cond-true, cond-false}
-use Rattle.std.proofs.lemmas.List.Sums.{prefix_len-drop_yes, prefix_len-drop_no, prefix_len-drop_all}
+use Rattle.std.proofs.lemmas.List.Folds.{length-prefix_len}
 use Rattle.std.specs.Int.Digits.{number_from_digits, AllBelowBase}
-use Rattle.std.specs.List.{between, prefix_len, AllByRecursion}
-use Rattle.photo.specs.Header.{digit, belongs, run_end, decimal}
-use Rattle.photo.specs.declared.scan.Class.{Class}
+use Rattle.std.specs.List.{between, prefix_len, take_while, AllByRecursion}
+use Rattle.photo.specs.Header.{digit, run_end, decimal}
 
-module _ (class : Class) (photo : List ℕ) (i : ℕ) where
-  pub run_more : i < length photo → true ≡ belongs class (get_or photo i 0) → run_end class photo i ≡ run_end class photo (i + 1)
-  unfolding run_end
-  run_more h e = omega (arith, prefix_len-drop_yes (belongs class) photo i 0 h (sym e))
-
-  pub run_stops : i < length photo → false ≡ belongs class (get_or photo i 0) → run_end class photo i ≡ i
-  unfolding run_end
-  run_stops h e = omega (arith, prefix_len-drop_no (belongs class) photo i 0 h (sym e))
-
-  pub run_past : length photo ≤ i → run_end class photo i ≡ i
-  unfolding run_end
-  run_past h = omega (arith, prefix_len-drop_all (belongs class) photo i h)
+-- how many bytes of the class stand from i on, and where they end
+pub run_count : (class : ℕ → Bool) (photo : List ℕ) (i : ℕ) → i + length (take_while class (drop i photo)) ≡ run_end class photo i
+unfolding run_end
+run_count class photo i = ap (λ n. i + n) (length-prefix_len class (drop i photo))
 
 pub decimal_more : (digits : List ℕ) (i : ℕ) → i < length digits → decimal (take (i + 1) digits) ≡ decimal (take i digits) * 10 + (get_or digits i 0 - 48)
 unfolding decimal
@@ -54,9 +45,9 @@ leading_all p (x ∷ xs) =
     (cases_Bool (p x))
 
 -- a run has only bytes of its class
-pub run_all : (class : Class) (photo : List ℕ) (i : ℕ) → AllByRecursion (λ c. belongs class c ≡ true) (between i (run_end class photo i) photo)
+pub run_all : (class : ℕ → Bool) (photo : List ℕ) (i : ℕ) → AllByRecursion (λ c. class c ≡ true) (between i (run_end class photo i) photo)
 unfolding run_end
 run_all class photo i =
-    let n = prefix_len (belongs class) (drop i photo) in
+    let n = prefix_len class (drop i photo) in
     let same : i + n - i ≡ n = omega arith in
-    subst (λ k. AllByRecursion (λ c. belongs class c ≡ true) (take k (drop i photo))) (sym same) (leading_all (belongs class) (drop i photo))
+    subst (λ k. AllByRecursion (λ c. class c ≡ true) (take k (drop i photo))) (sym same) (leading_all class (drop i photo))

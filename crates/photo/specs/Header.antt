@@ -5,8 +5,6 @@ use Rattle.std.specs.List.{between, prefix_len}
 use Rattle.refusal.specs.First.{ensure, after}
 use Rattle.refusal.specs.declared.Refusal.{Refusal}
 use Rattle.refusal.specs.declared.Refusal.TheVariants.{PhotographHeader}
-use Rattle.photo.specs.declared.scan.Class.{Class}
-use Rattle.photo.specs.declared.scan.Class.TheVariants.{White, Digit}
 use Rattle.photo.specs.declared.scan.Number.{Number}
 use Rattle.photo.specs.declared.scan.Scan.{Scan}
 
@@ -17,13 +15,9 @@ white c = c == 32 || c == 9 || c == 10 || c == 13
 abbrev pub digit : ℕ → Bool
 digit c = nat_le 48 c && nat_le c 57
 
-abbrev pub belongs : Class → ℕ → Bool
-belongs White c = white c
-belongs Digit c = digit c
-
--- the first byte from i on that is of another class, or the end
-unfoldable pub run_end : Class → List ℕ → ℕ → ℕ
-run_end class photo i = i + prefix_len (belongs class) (drop i photo)
+-- the first byte from i on that fails a test, or the end
+unfoldable pub run_end : (ℕ → Bool) → List ℕ → ℕ → ℕ
+run_end test photo i = i + prefix_len test (drop i photo)
 
 -- the number that digits write
 unfoldable pub decimal : List ℕ → ℕ
@@ -32,14 +26,14 @@ decimal digits = number_from_digits 10 (map (λ c. c - 48) digits)
 -- white bytes from i on, at least one, and where they end
 abbrev pub scan_white : List ℕ → ℕ → Result ℕ Refusal
 scan_white photo i =
-    after (ensure (nat_lt i (run_end White photo i)) (PhotographHeader i)) (λ _. Ok (run_end White photo i))
+    after (ensure (nat_lt i (run_end white photo i)) (PhotographHeader i)) (λ _. Ok (run_end white photo i))
 
 -- one to five digits from i on
 abbrev pub scan_number : List ℕ → ℕ → Result Number Refusal
 scan_number photo i =
-    after (ensure (nat_lt i (run_end Digit photo i)) (PhotographHeader i)) (λ _.
-    after (ensure (nat_le (run_end Digit photo i - i) 5) (PhotographHeader (i + 5))) (λ _.
-    Ok (record { value = decimal (between i (run_end Digit photo i) photo); start = i; end = run_end Digit photo i })))
+    after (ensure (nat_lt i (run_end digit photo i)) (PhotographHeader i)) (λ _.
+    after (ensure (nat_le (run_end digit photo i - i) 5) (PhotographHeader (i + 5))) (λ _.
+    Ok (record { value = decimal (between i (run_end digit photo i) photo); start = i; end = run_end digit photo i })))
 
 -- one white byte at i
 abbrev pub scan_one_white : List ℕ → ℕ → Result ℕ Refusal

@@ -8,7 +8,7 @@ ghost use Rattle.photo.specs.Verdict.{stride, checks_verdict, photo_verdict, hea
 
 mod scan;
 
-use octets::byte_at;
+use octets::Number;
 use refusal::{Refusal, ensure};
 pub use scan::Header;
 use scan::scan_header;
@@ -69,7 +69,7 @@ impl<'a> Photograph<'a> {
         if x >= self.width || y >= self.rows {
             return false;
         }
-        let byte = byte_at(self.bytes, self.row_start(y) + x / 8);
+        let byte = u8::at(self.bytes, self.row_start(y) + x / 8);
         (byte >> (7 - x % 8)) % 2 == 1
     }
 
@@ -80,7 +80,7 @@ impl<'a> Photograph<'a> {
         ensures bound { result ≤ 16384 }
     {
         laid(self.bytes, self.rows);
-        self.raster + y * ((self.width + 7) / 8)
+        self.raster + y * stride(self.width)
     }
 }
 
@@ -98,15 +98,13 @@ fn first_refusal(bytes: &[u8], rows: usize) -> Result<Header, Refusal>
     ensures { result ≡ checks_verdict bytes.now rows }
 {
     let length = bytes.len();
-    let kind = length >= 2
-        && length <= LARGEST
-        && byte_at(bytes, 0) == b'P'
-        && byte_at(bytes, 1) == b'4';
+    let sized = (2..=LARGEST).contains(&length);
+    let kind = sized && u8::at(bytes, 0) == b'P' && u8::at(bytes, 1) == b'4';
     ensure(kind, Refusal::PhotographKind)?;
     let scan = scan_header(bytes)?;
     let width = scan.width.value;
     ensure(
-        width >= 1 && width <= 2_048,
+        (1..=2_048).contains(&width),
         Refusal::PhotographMeasure {
             byte: scan.width.start,
         },
@@ -154,5 +152,13 @@ fn raster_size(rows: usize, width: usize) -> usize
     requires { (rows < 100000) × (width ≤ 2048) }
     ensures { result ≡ rows * stride width }
 {
-    rows * ((width + 7) / 8)
+    rows * stride(width)
+}
+
+// The bytes of a row of so many columns.
+fn stride(width: usize) -> usize
+    requires { width ≤ 2048 }
+    ensures { result ≡ stride width }
+{
+    width.div_ceil(8)
 }

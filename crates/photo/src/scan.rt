@@ -1,16 +1,10 @@
 // The scan of a photograph's header, one part after the other.
-ghost use Rattle.std.specs.Prelude.{◌≡◌, ◌+◌, ◌<◌, ◌≤◌, true, length, IfOk};
+ghost use Rattle.std.specs.Prelude.{◌≡◌, ℕ, Bool, ◌+◌, ◌<◌, ◌≤◌, true, length, IfOk};
+ghost use Rattle.std.specs.Fn.{CalledAt};
 ghost use Rattle.std.specs.List.{AllByRecursion};
-ghost use Rattle.photo.specs.Header.{white, digit, belongs as belonging, run_end, decimal, scan_white, scan_number, scan_one_white, scan_header};
+ghost use Rattle.photo.specs.Header.{white, digit, run_end, decimal, scan_white, scan_number, scan_one_white, scan_header};
 
 use refusal::{Refusal, ensure};
-
-// The two kinds of byte that a header has runs of.
-#[derive(Clone, Copy)]
-enum Class {
-    White,
-    Digit,
-}
 
 // A number of the header, its first digit, and the byte after its last.
 #[derive(Clone, Copy)]
@@ -35,26 +29,29 @@ pub struct Header {
     pub raster: usize,
 }
 
-fn belongs(class: Class, byte: u8) -> bool
-    ensures { result ≡ belonging class byte }
+// Whether a byte is blank, tab, line feed or carriage return.
+fn is_white(byte: u8) -> bool
+    ensures { result ≡ white byte }
 {
-    match class {
-        Class::White => byte == b' ' || byte == b'\t' || byte == b'\n' || byte == b'\r',
-        Class::Digit => byte >= b'0' && byte <= b'9',
-    }
+    matches!(byte, b' ' | b'\t' | b'\n' | b'\r')
 }
 
-// The first byte from `from` on that is of another class, or the end.
-fn run_end(bytes: &[u8], from: usize, class: Class) -> usize
-    requires { from ≤ length bytes.now }
-    ensures value { result ≡ run_end class bytes.now from }
+// Whether a byte is a digit.
+fn is_digit(byte: u8) -> bool
+    ensures { result ≡ digit byte }
+{
+    byte.is_ascii_digit()
+}
+
+// The first byte from `from` on that does not belong, or the end.
+fn run_end<T: FnMut(&&u8) -> bool + Drop>(bytes: &[u8], from: usize, belongs: T) -> usize
+    requires from { from ≤ length bytes.now }
+    requires callable { (state : T) (x : _) → T.pre state x }
+    ensures value { (test : ℕ → Bool) → ((x : _) (told : Bool) (after : T) → CalledAt T.FnMut belongs x told after → (after ≡ belongs) × (told ≡ test x.now)) → result ≡ run_end test bytes.now from }
     ensures within { (from ≤ result) × (result ≤ length bytes.now) }
 {
-    let mut at = from;
-    while at < bytes.len() && belongs(class, bytes[at]) {
-        at += 1;
-    }
-    at
+    let rest = &bytes[from..];
+    from + rest.iter().take_while(belongs).count()
 }
 
 // The number that at most five digits write.
@@ -76,7 +73,7 @@ fn scan_white_run(bytes: &[u8], from: usize) -> Result<usize, Refusal>
     ensures value { result ≡ scan_white bytes.now from }
     ensures within { IfOk result (λ end. end ≤ length bytes.now) }
 {
-    let end = run_end(bytes, from, Class::White);
+    let end = run_end(bytes, from, |b| is_white(**b));
     ensure(from < end, Refusal::PhotographHeader { byte: from })?;
     Ok(end)
 }
@@ -87,7 +84,7 @@ fn scan_digits(bytes: &[u8], from: usize) -> Result<Number, Refusal>
     ensures value { result ≡ scan_number bytes.now from }
     ensures within { IfOk result (λ n. (n.end ≤ length bytes.now) × (n.value < 100000)) }
 {
-    let end = run_end(bytes, from, Class::Digit);
+    let end = run_end(bytes, from, |b| is_digit(**b));
     ensure(from < end, Refusal::PhotographHeader { byte: from })?;
     ensure(
         end - from <= 5,
@@ -107,7 +104,7 @@ fn scan_one(bytes: &[u8], at: usize) -> Result<usize, Refusal>
     ensures value { result ≡ scan_one_white bytes.now at }
     ensures within { IfOk result (λ end. end ≤ length bytes.now) }
 {
-    let there = at < bytes.len() && belongs(Class::White, bytes[at]);
+    let there = bytes.get(at).is_some_and(|b| is_white(*b));
     ensure(there, Refusal::PhotographHeader { byte: at })?;
     Ok(at + 1)
 }

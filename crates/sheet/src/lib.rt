@@ -1,8 +1,9 @@
 // A sheet: the scorer whose every score was written down beforehand, held as the bytes of its file.
 #![tactic(auto)]
 
-ghost use Rattle.std.specs.Prelude.{◌≡◌, ◌*◌, ◌^◌, ◌<◌, ◌≤◌, true, IfSome, is_ok, Ok};
+ghost use Rattle.std.specs.Prelude.{◌≡◌, ◌+◌, ◌*◌, ◌^◌, ◌<◌, ◌≤◌, true, IfSome, is_ok, Ok};
 ghost use Rattle.octets.specs.Absent.{present};
+ghost use Rattle.octets.specs.Numbers.{i32_at};
 ghost use Rattle.scorer.specs.Meaning.{is_node};
 ghost use Rattle.sheet_file.specs.Fields.{width as width_of, count as count_of, node_entry, entry_start};
 ghost use Rattle.sheet_file.specs.Laid.{SheetLaid};
@@ -10,7 +11,7 @@ ghost use Rattle.sheet_file.specs.Meaning.{sheet_meaning};
 ghost use Rattle.sheet_file.specs.Verdict.{sheet_verdict};
 ghost use Rattle.sheet_file.proofs.Lawful.{sheet_lawful};
 
-use octets::{byte_at, i32_at, u16_at};
+use octets::Number;
 use scorer::Scorer;
 
 // A sheet that was checked.
@@ -43,6 +44,15 @@ impl<'a> Sheet<'a> {
         few_entries(self.bytes, t);
         Some(4 + self.count() + 8 * (t * width + x))
     }
+
+    // The score that stands `offset` bytes after the first of a node's entry.
+    fn score_at(&self, x: usize, t: usize, offset: usize) -> Option<i64>
+        requires { offset < 8 }
+        ensures { result ≡ present (is_node (sheet_meaning self.now.bytes.now) x t) (i32_at self.now.bytes.now (entry_start self.now.bytes.now (node_entry self.now.bytes.now x t) + offset)) }
+    {
+        let at = self.entry_at(x, t)?;
+        Some(i64::from(i32::at(self.bytes, at + offset)))
+    }
 }
 
 impl<'a> Scorer for Sheet<'a> {
@@ -51,30 +61,28 @@ impl<'a> Scorer for Sheet<'a> {
     ghost lawful = { λ s. sheet_lawful s.bytes.now s.lawful };
 
     fn width(&self) -> usize {
-        usize::from(u16_at(self.bytes, 0))
+        usize::from(u16::at(self.bytes, 0))
     }
 
     fn count(&self) -> usize {
-        usize::from(u16_at(self.bytes, 2))
+        usize::from(u16::at(self.bytes, 2))
     }
 
     fn setwidth(&self, t: usize) -> Option<usize> {
         laid(self.bytes);
         if t < self.count() {
-            Some(usize::from(byte_at(self.bytes, 4 + t)))
+            Some(usize::from(u8::at(self.bytes, 4 + t)))
         } else {
             None
         }
     }
 
     fn bound(&self, x: usize, t: usize) -> Option<i64> {
-        let at = self.entry_at(x, t)?;
-        Some(i64::from(i32_at(self.bytes, at + 4)))
+        self.score_at(x, t, 4)
     }
 
     fn exact(&self, x: usize, t: usize) -> Option<i64> {
-        let at = self.entry_at(x, t)?;
-        Some(i64::from(i32_at(self.bytes, at)))
+        self.score_at(x, t, 0)
     }
 }
 

@@ -66,7 +66,7 @@ module _ (sheet : List ℕ) where
         (exactly_each (entries sheet) (order_lawful sheet) _ (λ j. EntryNode sheet j → Ordered sheet j) (λ j _.
         decides_where (entry_node sheet j) (scores_ordered sheet j) (decides_leb _ (width sheet)) (decides_le_z (exact_at sheet j) (bound_at sheet j))))
 
-  exactly_head : Exactly (head_verdict sheet) (Headed sheet)
+  pub exactly_head : Exactly (head_verdict sheet) (Headed sheet)
   exactly_head =
       exactly_like (head_verdict sheet)
       (λ p. record { there = p.0; wide = p.1.0; counted = p.1.1.0 })

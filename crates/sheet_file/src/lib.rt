@@ -1,168 +1,170 @@
 // The file of a sheet: a line's setwidths and scores, written down beforehand. Its checks, in their order.
 #![tactic(auto)]
 
-ghost use Rattle.std.specs.Prelude.{◌≡◌, ℕ, ◌/◌, ◌^◌, ◌<◌, ◌≤◌, Bool, OnOk};
+ghost use Rattle.std.specs.Prelude.{◌≡◌, ℕ, ◌/◌, ◌^◌, ◌<◌, ◌≤◌, Bool, Ok};
 ghost use Rattle.refusal.specs.First.{first_failing, IsFirst, Exactly};
-ghost use Rattle.sheet_file.specs.Fields.{entries, entry_start};
+ghost use Rattle.sheet_file.specs.Fields.{width as width_of, count as count_of, entries, entry_start};
 ghost use Rattle.sheet_file.specs.Laid.{SheetLaid};
 ghost use Rattle.sheet_file.specs.Verdict.{Headed, head_verdict, length_verdict, setwidth_lawful, setwidths_verdict, entry_node, score_within, scores_within, scores_ordered, score_lawful, scores_verdict, order_lawful, orders_verdict, checks_verdict, sheet_verdict};
 
-use octets::{byte_at, i32_at, u16_at};
-use refusal::{Refusal, ensure};
+use octets::Number;
+use refusal::{Refusal, ensure, ensure_each};
+
+// The bytes of a sheet whose head was checked.
+#[derive(Clone, Copy)]
+struct Head<'a> {
+    bytes: &'a [u8],
+    ghost headed: { Headed bytes.now },
+}
 
 // Whether the head is there, and both its numbers are in range.
 fn check_head(bytes: &[u8]) -> Result<(), Refusal>
-    ensures value { result ≡ head_verdict bytes.now }
-    ensures within { OnOk result (Headed bytes.now) }
+    ensures { result ≡ head_verdict bytes.now }
 {
     let length = bytes.len();
     ensure(length >= 4, Refusal::SheetTruncated { length })?;
-    let width = u16_at(bytes, 0);
-    ensure(width >= 1 && width <= 2_048, Refusal::SheetHead { byte: 0 })?;
-    let count = u16_at(bytes, 2);
-    ensure(count >= 1 && count <= 64, Refusal::SheetHead { byte: 2 })
-}
-
-// How many entries the file has: one for each template and column.
-fn count_entries(bytes: &[u8]) -> usize
-    requires { Headed bytes.now }
-    ensures value { result ≡ entries bytes.now }
-    ensures bound { result < 2 ^ 32 }
-{
-    usize::from(u16_at(bytes, 2)) * usize::from(u16_at(bytes, 0))
-}
-
-// The first byte of entry `j`.
-fn entry_start(bytes: &[u8], j: usize) -> usize
-    requires { j < 2 ^ 32 }
-    ensures value { result ≡ entry_start bytes.now j }
-    ensures bound { result < 2 ^ 40 }
-{
-    4 + usize::from(u16_at(bytes, 2)) + 8 * j
-}
-
-// Whether the file ends where its last entry does.
-fn check_length(bytes: &[u8]) -> Result<(), Refusal>
-    requires { Headed bytes.now }
-    ensures { result ≡ length_verdict bytes.now }
-{
-    let length = bytes.len();
     ensure(
-        length == entry_start(bytes, count_entries(bytes)),
-        Refusal::SheetLength { length },
+        (1..=2_048).contains(&u16::at(bytes, 0)),
+        Refusal::SheetHead { byte: 0 },
+    )?;
+    ensure(
+        (1..=64).contains(&u16::at(bytes, 2)),
+        Refusal::SheetHead { byte: 2 },
     )
-}
-
-// Whether the setwidth of template `t` is in range.
-fn setwidth_lawful(bytes: &[u8], t: usize) -> bool
-    requires { t < 65536 }
-    ensures { result ≡ setwidth_lawful bytes.now t }
-{
-    let setwidth = byte_at(bytes, 4 + t);
-    setwidth >= 1 && setwidth <= 64
-}
-
-// Whether each setwidth is in range.
-fn check_setwidths(bytes: &[u8]) -> Result<(), Refusal>
-    ensures { result ≡ setwidths_verdict bytes.now }
-{
-    let count = usize::from(u16_at(bytes, 2));
-    for t in 0..count {
-        if !setwidth_lawful(bytes, t) {
-            return Err(Refusal::SheetSetwidth { byte: 4 + t });
-        }
-    }
-    Ok(())
-}
-
-// The template of entry `j`, where a template has `width` entries.
-fn template_of(j: usize, width: usize) -> usize
-    requires { 1 ≤ width }
-    ensures value { result ≡ j / width }
-    ensures bound { result ≤ j }
-{
-    j / width
-}
-
-// Whether entry `j` is a node: its template ends on the line.
-fn entry_node(bytes: &[u8], j: usize) -> bool
-    requires { (Headed bytes.now) × (j < 2 ^ 32) }
-    ensures { result ≡ entry_node bytes.now j }
-{
-    let width = usize::from(u16_at(bytes, 0));
-    let setwidth = usize::from(byte_at(bytes, 4 + template_of(j, width)));
-    j % width + setwidth <= width
 }
 
 // Whether a score is in range.
 fn score_within(score: i32) -> bool
     ensures { result ≡ score_within score }
 {
-    score >= -4_000_000 && score <= 4_000_000
+    (-4_000_000..=4_000_000).contains(&score)
 }
 
-// Whether both scores of entry `j` are in range.
-fn scores_within(bytes: &[u8], j: usize) -> bool
-    requires { j < 2 ^ 32 }
-    ensures { result ≡ scores_within bytes.now j }
-{
-    let at = entry_start(bytes, j);
-    score_within(i32_at(bytes, at)) && score_within(i32_at(bytes, at + 4))
-}
-
-// Whether the exact score of entry `j` is not above its bound.
-fn scores_ordered(bytes: &[u8], j: usize) -> bool
-    requires { j < 2 ^ 32 }
-    ensures { result ≡ scores_ordered bytes.now j }
-{
-    let at = entry_start(bytes, j);
-    i32_at(bytes, at) <= i32_at(bytes, at + 4)
-}
-
-// Whether entry `j` is no node, or has both scores in range.
-fn score_lawful(bytes: &[u8], j: usize) -> bool
-    requires { (Headed bytes.now) × (j < 2 ^ 32) }
-    ensures { result ≡ score_lawful bytes.now j }
-{
-    !entry_node(bytes, j) || scores_within(bytes, j)
-}
-
-// Whether entry `j` is no node, or has its exact score not above its bound.
-fn order_lawful(bytes: &[u8], j: usize) -> bool
-    requires { (Headed bytes.now) × (j < 2 ^ 32) }
-    ensures { result ≡ order_lawful bytes.now j }
-{
-    !entry_node(bytes, j) || scores_ordered(bytes, j)
-}
-
-// Whether each node has its scores in range.
-fn check_scores(bytes: &[u8]) -> Result<(), Refusal>
-    requires { Headed bytes.now }
-    ensures { result ≡ scores_verdict bytes.now }
-{
-    for j in 0..count_entries(bytes) {
-        if !score_lawful(bytes, j) {
-            return Err(Refusal::SheetScore {
-                byte: entry_start(bytes, j),
-            });
-        }
+impl<'a> Head<'a> {
+    // The head, once `check_head` refused nothing.
+    fn new(bytes: &'a [u8]) -> Head<'a>
+        requires { head_verdict bytes.now ≡ Ok tt }
+        ensures { result.bytes.now ≡ bytes.now }
+    {
+        Head { bytes }
     }
-    Ok(())
-}
 
-// Whether no node has its exact score above its bound.
-fn check_orders(bytes: &[u8]) -> Result<(), Refusal>
-    requires { Headed bytes.now }
-    ensures { result ≡ orders_verdict bytes.now }
-{
-    for j in 0..count_entries(bytes) {
-        if !order_lawful(bytes, j) {
-            return Err(Refusal::SheetOrder {
-                byte: entry_start(bytes, j),
-            });
-        }
+    // How many columns there are.
+    fn width(&self) -> usize
+        ensures value { result ≡ width_of self.now.bytes.now }
+        ensures within { (1 ≤ result) × (result ≤ 2048) }
+    {
+        usize::from(u16::at(self.bytes, 0))
     }
-    Ok(())
+
+    // How many templates there are.
+    fn count(&self) -> usize
+        ensures value { result ≡ count_of self.now.bytes.now }
+        ensures within { (1 ≤ result) × (result ≤ 64) }
+    {
+        usize::from(u16::at(self.bytes, 2))
+    }
+
+    // How many entries the file has: one for each template and column.
+    fn entries(&self) -> usize
+        ensures value { result ≡ entries self.now.bytes.now }
+        ensures bound { result < 2 ^ 32 }
+    {
+        self.count() * self.width()
+    }
+
+    // The first byte of entry `j`.
+    fn entry_start(&self, j: usize) -> usize
+        requires { j < 2 ^ 32 }
+        ensures value { result ≡ entry_start self.now.bytes.now j }
+        ensures bound { result < 2 ^ 40 }
+    {
+        4 + self.count() + 8 * j
+    }
+
+    // Whether the file ends where its last entry does.
+    fn check_length(&self) -> Result<(), Refusal>
+        ensures { result ≡ length_verdict self.now.bytes.now }
+    {
+        let length = self.bytes.len();
+        ensure(
+            length == self.entry_start(self.entries()),
+            Refusal::SheetLength { length },
+        )
+    }
+
+    // Whether the setwidth of template `t` is in range.
+    fn setwidth_lawful(&self, t: usize) -> bool
+        requires { t < 65536 }
+        ensures { result ≡ setwidth_lawful self.now.bytes.now t }
+    {
+        (1..=64).contains(&u8::at(self.bytes, 4 + t))
+    }
+
+    // Whether each setwidth is in range.
+    fn check_setwidths(&self) -> Result<(), Refusal>
+        ensures { result ≡ setwidths_verdict self.now.bytes.now }
+    {
+        ensure_each(
+            self.count(),
+            |t| self.setwidth_lawful(t),
+            |t| Refusal::SheetSetwidth { byte: 4 + t },
+        )
+    }
+
+    // Whether entry `j` is a node: its template ends on the line.
+    fn entry_node(&self, j: usize) -> bool
+        requires { j < 2 ^ 32 }
+        ensures { result ≡ entry_node self.now.bytes.now j }
+    {
+        let width = self.width();
+        let setwidth = usize::from(u8::at(self.bytes, 4 + j / width));
+        j % width + setwidth <= width
+    }
+
+    // Whether both scores of entry `j` are in range.
+    fn scores_within(&self, j: usize) -> bool
+        requires { j < 2 ^ 32 }
+        ensures { result ≡ scores_within self.now.bytes.now j }
+    {
+        let at = self.entry_start(j);
+        score_within(i32::at(self.bytes, at)) && score_within(i32::at(self.bytes, at + 4))
+    }
+
+    // Whether the exact score of entry `j` is not above its bound.
+    fn scores_ordered(&self, j: usize) -> bool
+        requires { j < 2 ^ 32 }
+        ensures { result ≡ scores_ordered self.now.bytes.now j }
+    {
+        let at = self.entry_start(j);
+        i32::at(self.bytes, at) <= i32::at(self.bytes, at + 4)
+    }
+
+    // Whether each node has its scores in range; an entry that is no node may hold anything.
+    fn check_scores(&self) -> Result<(), Refusal>
+        ensures { result ≡ scores_verdict self.now.bytes.now }
+    {
+        ensure_each(
+            self.entries(),
+            |j| !self.entry_node(j) || self.scores_within(j),
+            |j| Refusal::SheetScore {
+                byte: self.entry_start(j),
+            },
+        )
+    }
+
+    // Whether no node has its exact score above its bound.
+    fn check_orders(&self) -> Result<(), Refusal>
+        ensures { result ≡ orders_verdict self.now.bytes.now }
+    {
+        ensure_each(
+            self.entries(),
+            |j| !self.entry_node(j) || self.scores_ordered(j),
+            |j| Refusal::SheetOrder {
+                byte: self.entry_start(j),
+            },
+        )
+    }
 }
 
 // The first refusal, in the order of the checks.
@@ -170,10 +172,11 @@ fn first_refusal(bytes: &[u8]) -> Result<(), Refusal>
     ensures { result ≡ checks_verdict bytes.now }
 {
     check_head(bytes)?;
-    check_length(bytes)?;
-    check_setwidths(bytes)?;
-    check_scores(bytes)?;
-    check_orders(bytes)
+    let head = Head::new(bytes);
+    head.check_length()?;
+    head.check_setwidths()?;
+    head.check_scores()?;
+    head.check_orders()
 }
 
 // Does nothing: its contract is the laws that the verdict refuses nothing exactly if the layout holds, and
