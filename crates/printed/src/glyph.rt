@@ -5,7 +5,7 @@ ghost use Rattle.matching.specs.Counts.{sum};
 ghost use Rattle.printed.specs.Glyph.{weight, light, glyph_word, ink, column_gain, gain_at, ink_value};
 
 use super::values::{Level, earned};
-use octets::u32_at;
+use octets::Number;
 
 // The words of a box, one for each level of a column, and what a pixel of each level earns over black.
 #[derive(Clone, Copy)]
@@ -24,7 +24,7 @@ impl<'f, 'w> Glyph<'f, 'w> {
         requires { (c < 32) × (l < 4) }
         ensures { result ≡ glyph_word self.now.words.now self.now.weights.now c l }
     {
-        u64::from(u32_at(self.words, 4 * (self.weights.len() * c + l)))
+        u64::from(u32::at(self.words, 4 * (self.weights.len() * c + l)))
     }
 
     // How many pixels a level has in a column.
