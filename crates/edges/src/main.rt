@@ -3,45 +3,46 @@
 
 use listing::{list_files, print_answer};
 
-fn show(rt: &HostRuntime, what: &str, face: &str, photo: &str) -> anyhow::Result<()> {
-    print!(rt; "{what}: ")?;
-    print_answer(rt, list_files(rt, face, photo))
-}
+// What a pair shows, its face and its photograph.
+struct Pair(&'static str, &'static str, &'static str);
 
-fn main(rt: HostRuntime) -> anyhow::Result<()> {
-    show(&rt, "both there", "good/face.bin", "good/line.pbm")?;
-    show(&rt, "no face", "none/face.bin", "good/line.pbm")?;
-    show(
-        &rt,
+const PAIRS: [Pair; 10] = [
+    Pair("both there", "good/face.bin", "good/line.pbm"),
+    Pair("no face", "none/face.bin", "good/line.pbm"),
+    Pair(
         "the face is a folder",
         "face_is_a_folder/face.bin",
         "good/line.pbm",
-    )?;
-    show(&rt, "an empty face", "empty_face/face.bin", "good/line.pbm")?;
-    show(&rt, "an endless face", "/dev/zero", "good/line.pbm")?;
-    show(
-        &rt,
+    ),
+    Pair("an empty face", "empty_face/face.bin", "good/line.pbm"),
+    Pair("an endless face", "/dev/zero", "good/line.pbm"),
+    Pair(
         "a bad face and no photograph",
         "bad_face/face.bin",
         "bad_face/line.pbm",
-    )?;
-    show(
-        &rt,
+    ),
+    Pair(
         "no photograph",
         "no_photograph/face.bin",
         "no_photograph/line.pbm",
-    )?;
-    show(
-        &rt,
+    ),
+    Pair(
         "the photograph is a folder",
         "photograph_is_a_folder/face.bin",
         "photograph_is_a_folder/line.pbm",
-    )?;
-    show(
-        &rt,
+    ),
+    Pair(
         "an empty photograph",
         "empty_photograph/face.bin",
         "empty_photograph/line.pbm",
-    )?;
-    show(&rt, "an endless photograph", "good/face.bin", "/dev/zero")
+    ),
+    Pair("an endless photograph", "good/face.bin", "/dev/zero"),
+];
+
+fn main(rt: HostRuntime) -> anyhow::Result<()> {
+    for Pair(what, face, photo) in PAIRS.iter() {
+        print!(rt; "{what}: ")?;
+        print_answer(&rt, list_files(&rt, face, photo))?;
+    }
+    Ok(())
 }

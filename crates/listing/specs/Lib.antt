@@ -1,3 +1,4 @@
 pub mod Answer
 pub mod Files
 pub mod Laid
+pub mod Printed

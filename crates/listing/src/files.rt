@@ -47,10 +47,7 @@ fn read_file(
     requires { limit ≤ 65536 }
     ensures { MatchResult result (λ v. vec_len v ≤ limit + 1) (λ e. Unread unreadable e) }
 {
-    match front_of(rt, path, limit) {
-        Ok(bytes) => Ok(bytes),
-        Err(error) => Err(unread(error, unreadable)),
-    }
+    front_of(rt, path, limit).map_err(|error| unread(error, unreadable))
 }
 
 // The line of two files. The face is opened whole before the photograph is read.

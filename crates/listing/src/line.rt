@@ -1,11 +1,12 @@
 // What a listing tells of a line, or the refusal.
-ghost use Rattle.std.specs.Prelude.{◌≡◌, IfOk, Result};
+ghost use Rattle.std.specs.Prelude.{◌≡◌, Some, IfOk, Result};
 ghost use Rattle.face.specs.Fields.{count};
 ghost use Rattle.printed.specs.Gathered.{width_of};
 ghost use Rattle.refusal.specs.declared.Refusal.{Refusal};
 ghost use Rattle.listing.specs.declared.line.Line.{Line};
 ghost use Rattle.listing.specs.Answer.{line_answer, Answers};
 ghost use Rattle.listing.specs.Laid.{ListsExactly};
+ghost use Rattle.listing.specs.Printed.{printed};
 
 use face::Face;
 use photo::Photograph;
@@ -13,12 +14,23 @@ use printed::{Printed, gather, tabulate};
 use refusal::Refusal;
 use scorer::Scorer;
 use std::alloc::{AllocError, Global};
+use std::fmt;
 
 // A line that can be read: its columns, and the templates to read it by.
-#[derive(Clone, Copy)]
+#[derive(Clone, Copy, Debug, PartialEq, Eq)]
 pub struct Line {
     pub width: usize,
     pub count: usize,
+}
+
+// What a program prints of a line.
+impl fmt::Display for Line {
+    ghost output = { λ line. Some (printed line) };
+
+    fn fmt<W: fmt::Write>(&self, f: &mut fmt::Formatter<W>) -> fmt::Result {
+        let Line { width, count } = *self;
+        write!(f, "LINE {width} {count}")
+    }
 }
 
 // The line of a photograph under a face, or the first refusal: of the face, then of the photograph. Where both are

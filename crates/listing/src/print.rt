@@ -3,7 +3,6 @@ ghost use Rattle.std.specs.Prelude.{◌≡◌, false, is_ok, Err};
 ghost use Rattle.refusal.specs.declared.Refusal.TheVariants.{OutOfMemory};
 
 use super::line::Line;
-use anyhow::anyhow;
 use refusal::Refusal;
 
 // Prints the listing of a line, or its refusal. Want of memory has no number: it is an error, and prints nothing.
@@ -11,18 +10,9 @@ pub fn print_answer(rt: &HostRuntime, answer: Result<Line, Refusal>) -> anyhow::
     ensures { answer ≡ Err OutOfMemory → is_ok result ≡ false }
 {
     match answer {
-        Ok(line) => {
-            let width = line.width;
-            let count = line.count;
-            println!(rt; "LINE {width} {count}")?;
-        }
-        Err(refusal) => {
-            let Some(number) = refusal.number() else {
-                return Err(anyhow!("out of memory"));
-            };
-            let place = refusal.place();
-            println!(rt; "REFUSED {number} {place}")?;
-        }
+        Ok(line) => println!(rt; "{line}")?,
+        Err(Refusal::OutOfMemory) => return Err(Refusal::OutOfMemory.into()),
+        Err(refusal) => println!(rt; "{refusal}")?,
     }
     Ok(())
 }

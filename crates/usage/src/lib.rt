@@ -48,7 +48,7 @@ pub fn bound_then_wipe(heap: Global, face: Face, bytes: &mut [u8]) -> Result<Opt
 fn wipe_first(bytes: &mut [u8])
     ensures { bytes.new ≡ slice_set bytes.old 0 0 }
 {
-    if bytes.len() > 0 {
-        bytes[0] = 0;
+    if let Some(first) = bytes.first_mut() {
+        *first = 0;
     }
 }
