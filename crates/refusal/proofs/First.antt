@@ -1,6 +1,6 @@
 -- Laws of the first refusal. Assumes nothing.
-use Rattle.std.proofs.Common.{◌≡◌, ℕ, zero, suc, ◌+◌, ◌-◌, ◌<◌, ◌≤◌, Bool, true, false, cond, not, ◌⊎◌, List, [], ◌∷◌, is_some, is_ok, Some, None, Ok, Err, Decides, Option, Result, get_or, sym, refl, ap, ◌∙◌, subst, ⊎_elim, arith}
-use Rattle.std.proofs.lemmas.Bool.{cases_Bool, cond-true, cond-false, false≢true, and_parts, and_from}
+use Rattle.std.proofs.Common.{◌≡◌, ℕ, zero, suc, ◌+◌, ◌-◌, ◌<◌, ◌≤◌, Bool, true, false, cond, ◌⊎◌, List, [], ◌∷◌, is_ok, Some, None, Ok, Err, Decides, Option, Result, get_or, sym, refl, ap, ◌∙◌, subst, ⊎_elim, arith}
+use Rattle.std.proofs.lemmas.Bool.{cases_Bool, cond-true, cond-false, false≢true}
 use Rattle.std.proofs.lemmas.List.FromFn.{length-range_with_len, get_or-range_with_len}
 use Rattle.std.proofs.lemmas.List.Sums.{AllPass-from_list_all, list_all-from_AllPass}
 use Rattle.std.specs.List.{range_with_len}
@@ -10,9 +10,6 @@ use Rattle.refusal.specs.First.{Verdict, ensure, refuse, each, ensure_each, firs
 -- a loop over n things has passed those before the i-th, so what is left decides
 abbrev pub Sofar : ℕ → (ℕ → Bool) → ℕ → Type 0
 Sofar n test i = first_failing test 0 n ≡ first_failing test i (n - i)
-
-pub sofar_none : (n : ℕ) (test : ℕ → Bool) → Sofar n test 0
-sofar_none n test = let s : n ≡ n - 0 = omega arith in ap (first_failing test 0) s
 
 step : (test : ℕ → Bool) (i n : ℕ) → i < n → first_failing test i (n - i) ≡ cond (test i) (first_failing test (i + 1) (n - (i + 1))) (Some i)
 unfolding first_failing
@@ -27,13 +24,6 @@ sofar_stop n test i s h t = s ∙ step test i n h ∙ cond-false (test i) _ _ (s
 pub sofar_all : (n : ℕ) (test : ℕ → Bool) (i : ℕ) → Sofar n test i → n ≤ i → first_failing test 0 n ≡ None
 unfolding first_failing
 sofar_all n test i s h = let z : n - i ≡ 0 = omega arith in s ∙ ap (first_failing test i) z
-
--- what the loop answers
-pub refuse_some : {o : Option ℕ} (e : ℕ → Refusal) (k : ℕ) → o ≡ Some k → Err (e k) ≡ refuse o e
-refuse_some e k p = sym (ap (λ o. refuse o e) p)
-
-pub refuse_none : {o : Option ℕ} (e : ℕ → Refusal) → o ≡ None → Ok tt ≡ refuse o e
-refuse_none e p = sym (ap (λ o. refuse o e) p)
 
 -- among n things from i on
 abbrev From : (ℕ → Bool) → ℕ → ℕ → Option ℕ → Type 0
