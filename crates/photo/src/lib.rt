@@ -20,11 +20,9 @@ const LARGEST: usize = 16_384;
 pub struct Photograph<'a> {
     bytes: &'a [u8],
     rows: usize,
-    width: usize,
-    raster: usize,
+    header: Header,
     ghost lawful: { is_ok (photo_verdict bytes.now rows) ≡ true },
-    ghost wide: { width ≡ (header_of bytes.now rows).width },
-    ghost begins: { raster ≡ (header_of bytes.now rows).raster },
+    ghost told: { header ≡ header_of bytes.now rows },
 }
 
 impl<'a> Photograph<'a> {
@@ -39,8 +37,7 @@ impl<'a> Photograph<'a> {
         Photograph {
             bytes,
             rows,
-            width: header.width,
-            raster: header.raster,
+            header,
         }
     }
 
@@ -50,7 +47,7 @@ impl<'a> Photograph<'a> {
         ensures within { (1 ≤ result) × (result ≤ 2048) }
     {
         laid(self.bytes, self.rows);
-        self.width
+        self.header.width
     }
 
     // How many rows there are.
@@ -66,7 +63,7 @@ impl<'a> Photograph<'a> {
         ensures padding { (other : List ℕ) → PaddedAlike self.now.rows self.now.bytes.now other → result ≡ black_at other self.now.rows x y }
     {
         padding_law(self.bytes, self.rows, x, y);
-        if x >= self.width || y >= self.rows {
+        if x >= self.header.width || y >= self.rows {
             return false;
         }
         let byte = u8::at(self.bytes, self.row_start(y) + x / 8);
@@ -76,11 +73,11 @@ impl<'a> Photograph<'a> {
     // The first byte of row `y` in the raster.
     fn row_start(&self, y: usize) -> usize
         requires { y < self.now.rows }
-        ensures value { result ≡ self.now.raster + y * stride self.now.width }
+        ensures value { result ≡ self.now.header.raster + y * stride self.now.header.width }
         ensures bound { result ≤ 16384 }
     {
         laid(self.bytes, self.rows);
-        self.raster + y * stride(self.width)
+        self.header.raster + y * stride(self.header.width)
     }
 }
 
