@@ -38,15 +38,17 @@ impl fmt::Display for Total {
 }
 
 // The total of a score that the scorer is asked at each column and template.
-fn over_nodes<F: Fn(usize, usize) -> Option<i64>>(scorer: &Printed, score: F) -> Total
+fn over_nodes<F: Fn(&Printed, usize, usize) -> Option<i64>>(scorer: &Printed, score: F) -> Total
     requires { F.IsAlwaysCallable score }
 {
-    let (columns, score) = (scorer.width(), &score);
+    let score = &score;
     (0..scorer.count())
-        .flat_map(|t| (0..columns).filter_map(move |x| score(x, t)))
+        .flat_map(|t| (0..scorer.width()).filter_map(move |x| score(scorer, x, t)))
         .fold(Total::default(), Total::with)
 }
 
+// Prints a total, and to the error output what one question took. `main` reads the clock around each sum itself: in a
+// function that times and prints, taking the question, one exact score took 1,670 ns and not 1,160.
 fn show(rt: &HostRuntime, what: &str, total: Total, nanos: u128) -> anyhow::Result<()> {
     println!(rt; "{what}: {total}")?;
     if let Some(each) = nanos.checked_div(u128::from(total.nodes)) {
@@ -77,9 +79,9 @@ fn main(rt: HostRuntime) -> anyhow::Result<()> {
     eprintln!(rt; "gathered in {gathered} us, tabulated in {tabulated} us")?;
     let scorer = Printed::new(face, photograph, &columns, &tables);
     let start = Instant::now(&rt)?;
-    let bounds = over_nodes(&scorer, |x, t| scorer.bound(x, t));
+    let bounds = over_nodes(&scorer, |scorer, x, t| scorer.bound(x, t));
     show(&rt, "bounds", bounds, start.elapsed(&rt)?.as_nanos())?;
     let start = Instant::now(&rt)?;
-    let exact = over_nodes(&scorer, |x, t| scorer.exact(x, t));
+    let exact = over_nodes(&scorer, |scorer, x, t| scorer.exact(x, t));
     show(&rt, "exact scores", exact, start.elapsed(&rt)?.as_nanos())
 }
