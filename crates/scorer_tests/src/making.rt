@@ -2,7 +2,7 @@
 ghost use Rattle.std.specs.Prelude.{◌≡◌, IfOk, Ok, OnOk};
 ghost use Rattle.face.specs.Verdict.{face_verdict};
 
-use checks::{check, lawful};
+use checks::lawful;
 use face::Face;
 use photo::Photograph;
 use printed::Printed;
@@ -23,6 +23,13 @@ pub(crate) struct Shape<'a>(
     pub(crate) &'a [u32],
 );
 
+// The bytes of a template, before its words.
+fn template(shape: &Shape) -> [u8; 8] {
+    let Shape(setwidth, width, prior, _) = *shape;
+    let [low, high] = prior.to_le_bytes();
+    [b'x', setwidth, width, 0, low, high, 0, 0]
+}
+
 // The bytes of a face.
 pub(crate) fn face_bytes(
     heap: Global,
@@ -32,23 +39,14 @@ pub(crate) fn face_bytes(
 ) -> Result<Vec<u8>, Fail>
     ensures { IfOk result (λ v. face_verdict v.items ≡ Ok tt) }
 {
-    check(levels.len() <= 4 && shapes.len() <= 64)?;
-    let mut bytes = Vec::new(heap);
-    bytes.extend_from_slice(&[shapes.len() as u8, 0, levels.len() as u8, height])?;
-    for Level(gamma, beta) in levels {
-        bytes.extend_from_slice(&gamma.to_le_bytes())?;
-        bytes.extend_from_slice(&beta.to_le_bytes())?;
-    }
-    for Shape(setwidth, width, prior, _) in shapes {
-        bytes.extend_from_slice(&[b'x', *setwidth, *width, 0])?;
-        bytes.extend_from_slice(&prior.to_le_bytes())?;
-        bytes.extend_from_slice(&[0, 0])?;
-    }
-    for Shape(_, _, _, words) in shapes {
-        for word in words.iter() {
-            bytes.extend_from_slice(&word.to_le_bytes())?;
-        }
-    }
+    let count = u8::try_from(shapes.len())?;
+    let depth = u8::try_from(levels.len())?;
+    let mut bytes = [count, 0, depth, height].to_vec(heap)?;
+    let weights = levels.iter().flat_map(|Level(gamma, beta)| [*gamma, *beta]);
+    bytes.extend(weights.flat_map(|weight| weight.to_le_bytes()))?;
+    bytes.extend(shapes.iter().flat_map(template))?;
+    let words = shapes.iter().flat_map(|Shape(_, _, _, words)| words.iter());
+    bytes.extend(words.flat_map(|word| word.to_le_bytes()))?;
     lawful(face::check(&bytes))?;
     Ok(bytes)
 }

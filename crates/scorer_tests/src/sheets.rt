@@ -8,33 +8,27 @@ use std::alloc::Global;
 use std::test::*;
 
 // Exact score and bound of each column of two templates, of setwidths 1 and 2. The last is no node.
-const ENTRIES: [i32; 16] = [
-    -1,
-    0,
-    -2,
-    5,
-    3,
-    3,
-    4,
-    9,
-    10,
-    11,
-    20,
-    4_000_000,
-    -4_000_000,
-    33,
-    i32::MAX,
-    i32::MIN,
+const ENTRIES: [(i32, i32); 8] = [
+    (-1, 0),
+    (-2, 5),
+    (3, 3),
+    (4, 9),
+    (10, 11),
+    (20, 4_000_000),
+    (-4_000_000, 33),
+    (i32::MAX, i32::MIN),
 ];
 
 // The bytes of a sheet of four columns.
 fn sheet_bytes(heap: Global) -> Result<Vec<u8>, Fail> {
     let mut bytes = [4, 0, 2, 0, 1, 2].to_vec(heap)?;
-    bytes.extend(ENTRIES.iter().flat_map(|entry| entry.to_le_bytes()))?;
+    let scores = ENTRIES.iter().flat_map(|(exact, bound)| [*exact, *bound]);
+    bytes.extend(scores.flat_map(|score| score.to_le_bytes()))?;
     Ok(bytes)
 }
 
-// The sheet that the bytes hold. Fails where they are refused.
+// The sheet that the bytes hold. Fails where they are refused. The tests of the sheet have the same two lines: a crate for
+// both would rest on the sheets for these alone.
 fn opened(bytes: &[u8]) -> Result<Sheet<'_>, Fail> {
     lawful(sheet_file::check(bytes))?;
     Ok(Sheet::new(bytes))
