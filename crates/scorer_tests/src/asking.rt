@@ -52,14 +52,27 @@ pub(crate) fn scores<S: Scorer>(scorer: &S, nodes: &[Node<Scored>]) -> Result<()
 }
 
 // Compares the scores and the shift at each column and template.
-pub(crate) fn places<S: PlacedScorer>(scorer: &S, nodes: &[Node<Placed>]) -> Result<(), Fail> {
+fn places<S: PlacedScorer>(scorer: &S, nodes: &[Node<Placed>]) -> Result<(), Fail> {
     compare(nodes, |x, t| scorer.bound(x, t), |(bound, _, _)| bound)?;
     compare(nodes, |x, t| scorer.exact(x, t), |(_, exact, _)| exact)?;
     compare(nodes, |x, t| scorer.shift(x, t), |(_, _, shift)| shift)
 }
 
-// Compares all that a scorer tells, and once more where it is lent.
-pub(crate) fn answers(
+// Compares all that a scorer tells.
+pub(crate) fn answers<S: PlacedScorer>(
+    scorer: &S,
+    width: usize,
+    setwidths: &[usize],
+    nodes: &[Node<Placed>],
+) -> Result<(), Fail>
+    ensures { OnOk result (Measured (S.Scorer.meaning scorer.now) width (length setwidths.now)) }
+{
+    measures(scorer, width, setwidths)?;
+    places(scorer, nodes)
+}
+
+// Compares all that a printed scorer tells, and once more where it is lent.
+pub(crate) fn held_and_lent(
     scorer: &Printed,
     width: usize,
     setwidths: &[usize],
@@ -67,8 +80,6 @@ pub(crate) fn answers(
 ) -> Result<(), Fail>
     ensures { OnOk result (Measured (line_meaning scorer.now.face.bytes.now scorer.now.photo) width (length setwidths.now)) }
 {
-    measures(scorer, width, setwidths)?;
-    places(scorer, nodes)?;
-    measures(&scorer, width, setwidths)?;
-    places(&scorer, nodes)
+    answers(scorer, width, setwidths, nodes)?;
+    answers(&scorer, width, setwidths, nodes)
 }

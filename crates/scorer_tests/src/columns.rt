@@ -1,5 +1,5 @@
 // Boxes over columns with more and fewer black pixels, and over the right end of a photograph.
-use super::asking::{Node, Placed, answers};
+use super::asking::{Node, Placed, held_and_lent};
 use super::making::{Level, Shape, face_bytes, on_line, photo_bytes};
 use std::test::*;
 
@@ -46,7 +46,7 @@ fn a_pixel_to_earn_and_one_to_keep_white(rt: HostRuntime) -> Result<(), Fail> {
         rt.alloc(),
         &face,
         &photo,
-        |scorer| answers(scorer, 5, &[1], &RISING_NODES),
+        |scorer| held_and_lent(scorer, 5, &[1], &RISING_NODES),
     )?;
     let face = face_bytes(rt.alloc(), 2, &TWO_LEVELS, &TWO_PIXELS)?;
     let photo = photo_bytes(rt.alloc(), b"P4 7 6\n", &SHIFTED)?;
@@ -54,7 +54,7 @@ fn a_pixel_to_earn_and_one_to_keep_white(rt: HostRuntime) -> Result<(), Fail> {
         rt.alloc(),
         &face,
         &photo,
-        |scorer| answers(scorer, 7, &[1], &SHIFTED_NODES),
+        |scorer| held_and_lent(scorer, 7, &[1], &SHIFTED_NODES),
     )
 }
 
@@ -119,7 +119,7 @@ fn each_number_of_black_pixels(rt: HostRuntime) -> Result<(), Fail> {
         rt.alloc(),
         &face,
         &photo,
-        |scorer| answers(scorer, 9, &[1, 1, 1], &STAIR_NODES),
+        |scorer| held_and_lent(scorer, 9, &[1, 1, 1], &STAIR_NODES),
     )
 }
 
@@ -167,6 +167,6 @@ fn right_of_the_photograph(rt: HostRuntime) -> Result<(), Fail> {
         rt.alloc(),
         &face,
         &photo,
-        |scorer| answers(scorer, 3, &[1, 1, 2, 1, 3, 4], &WIDE_NODES),
+        |scorer| held_and_lent(scorer, 3, &[1, 1, 2, 1, 3, 4], &WIDE_NODES),
     )
 }

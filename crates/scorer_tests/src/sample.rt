@@ -1,5 +1,5 @@
 // Two templates on three columns, as bytes.
-use super::asking::{Node, Placed, answers};
+use super::asking::{Node, Placed, held_and_lent};
 use super::making::on_line;
 use std::test::*;
 
@@ -42,6 +42,6 @@ fn the_sample(rt: HostRuntime) -> Result<(), Fail> {
         rt.alloc(),
         FACE,
         PHOTO,
-        |scorer| answers(scorer, 3, &[1, 2], &NODES),
+        |scorer| held_and_lent(scorer, 3, &[1, 2], &NODES),
     )
 }

@@ -1,8 +1,11 @@
 // Windows over a sheet, and a sheet that is lent.
+ghost use Rattle.std.specs.Prelude.{OnOk};
+ghost use Rattle.scorer_tests.specs.Told.{Measured};
+
 use super::asking::{Node, Scored, measures, scores};
 use super::making::window;
 use checks::{lawful, told};
-use scorer::check_window;
+use scorer::{Scorer, check_window};
 use sheet::Sheet;
 use std::alloc::Global;
 use std::test::*;
@@ -65,15 +68,21 @@ const MIDDLE: [Node<Scored>; 9] = [
 // The window from column 1 of width 1 over that window.
 const INNER: [Node<Scored>; 3] = [Node(0, 0, Some((3, 3))), Node(1, 0, None), Node(0, 1, None)];
 
+// Compares all that a scorer with the two templates tells.
+fn answers<S: Scorer>(scorer: &S, width: usize, nodes: &[Node<Scored>]) -> Result<(), Fail>
+    ensures { OnOk result (Measured (S.Scorer.meaning scorer.now) width 2) }
+{
+    measures(scorer, width, &[1, 2])?;
+    scores(scorer, nodes)
+}
+
 // A sheet that is lent tells what the sheet tells.
 #[test]
 fn a_lent_sheet(rt: HostRuntime) -> Result<(), Fail> {
     let bytes = sheet_bytes(rt.alloc())?;
     let sheet = opened(&bytes)?;
-    measures(&&sheet, 4, &[1, 2])?;
-    scores(&&sheet, &LINE)?;
-    measures(&&&sheet, 4, &[1, 2])?;
-    scores(&&&sheet, &LINE)
+    answers(&&sheet, 4, &LINE)?;
+    answers(&&&sheet, 4, &LINE)
 }
 
 // A window over a sheet tells what the sheet tells of its columns, and refuses what ends past the sheet.
@@ -82,11 +91,9 @@ fn a_window_over_a_sheet(rt: HostRuntime) -> Result<(), Fail> {
     let bytes = sheet_bytes(rt.alloc())?;
     let sheet = opened(&bytes)?;
     let middle = window(sheet, 1, 2)?;
-    measures(&middle, 2, &[1, 2])?;
-    scores(&middle, &MIDDLE)?;
+    answers(&middle, 2, &MIDDLE)?;
     let inner = window(middle, 1, 1)?;
-    measures(&inner, 1, &[1, 2])?;
-    scores(&inner, &INNER)?;
+    answers(&inner, 1, &INNER)?;
     assert_eq!(rt; told(check_window(&sheet, 3, 2))?, Some((41, 3)));
     Ok(())
 }
@@ -97,6 +104,5 @@ fn a_window_over_a_lent_sheet(rt: HostRuntime) -> Result<(), Fail> {
     let bytes = sheet_bytes(rt.alloc())?;
     let sheet = opened(&bytes)?;
     let middle = window(&sheet, 1, 2)?;
-    measures(&middle, 2, &[1, 2])?;
-    scores(&middle, &MIDDLE)
+    answers(&middle, 2, &MIDDLE)
 }

@@ -1,5 +1,5 @@
 // Windows over a printed scorer and over a sheet, held and lent, and windows over windows.
-use super::asking::{Node, Placed, measures, places};
+use super::asking::{Node, Placed, answers};
 use super::making::{Level, Shape, face_bytes, on_line, photo_bytes, window};
 use checks::{check_eq, told};
 use printed::Printed;
@@ -85,31 +85,24 @@ const LAST: [Node<Placed>; 4] = [
 fn ask_windows(scorer: &Printed) -> Result<(), Fail> {
     let setwidths = [1, 3, 6];
     let middle = window(*scorer, 1, 5)?;
-    measures(&middle, 5, &setwidths)?;
-    places(&middle, &MIDDLE)?;
+    answers(&middle, 5, &setwidths, &MIDDLE)?;
     let inner = window(middle, 1, 3)?;
-    measures(&inner, 3, &setwidths)?;
-    places(&inner, &INNER)
+    answers(&inner, 3, &setwidths, &INNER)
 }
 
 // Asks windows over the lent scorer.
 fn ask_lent_windows(scorer: &Printed) -> Result<(), Fail> {
     let setwidths = [1, 3, 6];
-    places(scorer, &LINE)?;
+    answers(scorer, 7, &setwidths, &LINE)?;
     let whole = window(scorer, 0, 7)?;
-    measures(&whole, 7, &setwidths)?;
-    places(&whole, &LINE)?;
+    answers(&whole, 7, &setwidths, &LINE)?;
     let last = window(scorer, 6, 1)?;
-    measures(&last, 1, &setwidths)?;
-    places(&last, &LAST)?;
+    answers(&last, 1, &setwidths, &LAST)?;
     let middle = window(scorer, 1, 5)?;
-    measures(&middle, 5, &setwidths)?;
-    places(&middle, &MIDDLE)?;
+    answers(&middle, 5, &setwidths, &MIDDLE)?;
     let inner = window(&middle, 1, 3)?;
-    measures(&inner, 3, &setwidths)?;
-    places(&inner, &INNER)?;
-    measures(&&inner, 3, &setwidths)?;
-    places(&&inner, &INNER)
+    answers(&inner, 3, &setwidths, &INNER)?;
+    answers(&&inner, 3, &setwidths, &INNER)
 }
 
 // A first column and a width, and what is refused of that window over seven columns, by number and place.

@@ -1,5 +1,5 @@
 // Priors, what pixels earn wherever they lie, and the greatest and lowest scores that there are.
-use super::asking::{Node, Placed, answers};
+use super::asking::{Node, Placed, held_and_lent};
 use super::making::{Level, Shape, face_bytes, on_line, photo_bytes};
 use std::alloc::{AllocError, Global};
 use std::test::*;
@@ -66,7 +66,7 @@ fn priors_and_levels_of_either_sign(rt: HostRuntime) -> Result<(), Fail> {
         rt.alloc(),
         &face,
         &photo,
-        |scorer| answers(scorer, 4, &[1, 1, 1, 1, 1, 1, 1], &NODES),
+        |scorer| held_and_lent(scorer, 4, &[1, 1, 1, 1, 1, 1, 1], &NODES),
     )
 }
 
@@ -113,7 +113,7 @@ fn largest(heap: Global, level: i16, nodes: &[Node<Placed>]) -> Result<(), Fail>
         heap,
         &face,
         &photo,
-        |scorer| answers(scorer, 40, &[1, 32], nodes),
+        |scorer| held_and_lent(scorer, 40, &[1, 32], nodes),
     )
 }
 
