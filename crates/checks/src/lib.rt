@@ -1,8 +1,15 @@
-// What a helper of tests compares: where it fails, the helper returns the test's failure, and no process ends.
+// What helpers of tests compare, and pseudo-random numbers. Where a comparison fails, the helper returns the test's failure,
+// and no process ends.
 #![tactic(auto)]
 
-ghost use Rattle.std.specs.Prelude.{◌≡◌, is_ok};
+ghost use Rattle.std.specs.Prelude.{◌≡◌, is_ok, Ok, IfOk};
+ghost use Rattle.std.specs.Result.{result_ok};
+ghost use Rattle.checks.specs.Told.{refused_at};
 
+mod noise;
+
+pub use noise::Noise;
+use refusal::Refusal;
 use std::fmt::Debug;
 use std::test::Fail;
 
@@ -26,4 +33,29 @@ pub fn check_eq<T: PartialEq + Debug + Drop>(found: T, wanted: T) -> Result<(), 
     } else {
         Err(Fail::new(format_args!("found {found:?}, wanted {wanted:?}")))
     }
+}
+
+// The number and place of what is refused, or none where nothing is. Fails at want of memory, which has no number.
+pub fn told<T: Drop>(answer: Result<T, Refusal>) -> Result<Option<(u8, usize)>, Fail>
+    ensures { result_ok result ≡ refused_at answer }
+{
+    let Err(refusal) = answer else {
+        return Ok(None);
+    };
+    let Some(number) = refusal.number() else {
+        return Err(Fail::new("memory is wanting"));
+    };
+    Ok(Some((number, refusal.place())))
+}
+
+// Hands on what is answered. Fails where something is refused, and shows its number and place.
+pub fn lawful<T: Drop>(answer: Result<T, Refusal>) -> Result<T, Fail>
+    ensures value { IfOk result (λ x. answer ≡ Ok x) }
+    ensures exactly { is_ok result ≡ is_ok answer }
+{
+    answer.map_err(|refusal| {
+        let number = refusal.number();
+        let place = refusal.place();
+        Fail::new(format_args!("refused with {number:?} at {place}"))
+    })
 }

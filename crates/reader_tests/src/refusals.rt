@@ -53,7 +53,7 @@ const CASES: [Case; 29] = [
 
 #[test]
 fn number_place_and_template(rt: HostRuntime) {
-    for Case(refusal, number, place, template) in CASES.iter() {
+    for Case(refusal, number, place, template) in &CASES {
         assert_eq!(rt;
             (refusal.number(), refusal.place(), refusal.template()),
             (*number, *place, *template)

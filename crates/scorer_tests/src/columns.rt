@@ -1,5 +1,5 @@
 // Boxes over columns with more and fewer black pixels, and over the right end of a photograph.
-use super::asking::{Answers, Placed};
+use super::asking::{Node, Placed, held_and_lent};
 use super::making::{Level, Shape, face_bytes, on_line, photo_bytes};
 use std::test::*;
 
@@ -12,13 +12,13 @@ const TWO_PIXELS: [Shape; 1] = [Shape(1, 1, 0, &[1, 2])];
 const RISING: [&[u8]; 6] = [b"..###", b"..#.#", b"...##", b"..###", b".####", b"...##"];
 
 // In the third column two rows reach the score, and the higher one is told.
-const RISING_NODES: [Placed; 6] = [
-    Placed(0, 0, Some((0, 0, -2))),
-    Placed(1, 0, Some((3, 3, 2))),
-    Placed(2, 0, Some((3, 3, -1))),
-    Placed(3, 0, Some((3, 3, -2))),
-    Placed(4, 0, Some((1, 1, -2))),
-    Placed(5, 0, None),
+const RISING_NODES: [Node<Placed>; 6] = [
+    Node(0, 0, Some((0, 0, -2))),
+    Node(1, 0, Some((3, 3, 2))),
+    Node(2, 0, Some((3, 3, -1))),
+    Node(3, 0, Some((3, 3, -2))),
+    Node(4, 0, Some((1, 1, -2))),
+    Node(5, 0, None),
 ];
 
 // Columns where each shift is the best once, and where the bound is not reached.
@@ -26,15 +26,15 @@ const SHIFTED: [&[u8]; 6] = [
     b".#.#...", b"..##...", b"..#####", b"..###.#", b"..##..#", b"#.#...#",
 ];
 
-const SHIFTED_NODES: [Placed; 8] = [
-    Placed(0, 0, Some((3, 0, -2))),
-    Placed(1, 0, Some((3, 3, -2))),
-    Placed(2, 0, Some((3, 1, -1))),
-    Placed(3, 0, Some((3, 3, 2))),
-    Placed(4, 0, Some((3, 3, 1))),
-    Placed(5, 0, Some((3, 3, 0))),
-    Placed(6, 0, Some((3, 1, 0))),
-    Placed(7, 0, None),
+const SHIFTED_NODES: [Node<Placed>; 8] = [
+    Node(0, 0, Some((3, 0, -2))),
+    Node(1, 0, Some((3, 3, -2))),
+    Node(2, 0, Some((3, 1, -1))),
+    Node(3, 0, Some((3, 3, 2))),
+    Node(4, 0, Some((3, 3, 1))),
+    Node(5, 0, Some((3, 3, 0))),
+    Node(6, 0, Some((3, 1, 0))),
+    Node(7, 0, None),
 ];
 
 // The bound of a column depends on how many of its pixels are black, and the exact score on which.
@@ -42,10 +42,20 @@ const SHIFTED_NODES: [Placed; 8] = [
 fn a_pixel_to_earn_and_one_to_keep_white(rt: HostRuntime) -> Result<(), Fail> {
     let face = face_bytes(rt.alloc(), 2, &TWO_LEVELS, &TWO_PIXELS)?;
     let photo = photo_bytes(rt.alloc(), b"P4 5 6\n", &RISING)?;
-    on_line(rt.alloc(), face, photo, &Answers(5, &[1], &RISING_NODES))?;
+    on_line(
+        rt.alloc(),
+        &face,
+        &photo,
+        |scorer| held_and_lent(scorer, 5, &[1], &RISING_NODES),
+    )?;
     let face = face_bytes(rt.alloc(), 2, &TWO_LEVELS, &TWO_PIXELS)?;
     let photo = photo_bytes(rt.alloc(), b"P4 7 6\n", &SHIFTED)?;
-    on_line(rt.alloc(), face, photo, &Answers(7, &[1], &SHIFTED_NODES))
+    on_line(
+        rt.alloc(),
+        &face,
+        &photo,
+        |scorer| held_and_lent(scorer, 7, &[1], &SHIFTED_NODES),
+    )
 }
 
 const FOUR_LEVELS: [Level; 4] = [Level(-1, 0), Level(5, 0), Level(-3, 0), Level(2, 0)];
@@ -69,35 +79,35 @@ const STAIR: [&[u8]; 8] = [
     b"........#",
 ];
 
-const STAIR_NODES: [Placed; 28] = [
-    Placed(0, 0, Some((0, 0, -2))),
-    Placed(1, 0, Some((5, 0, -1))),
-    Placed(2, 0, Some((7, 4, -2))),
-    Placed(3, 0, Some((7, 4, -1))),
-    Placed(4, 0, Some((7, 4, 0))),
-    Placed(5, 0, Some((7, 4, 1))),
-    Placed(6, 0, Some((7, 4, 2))),
-    Placed(7, 0, Some((6, 3, -2))),
-    Placed(8, 0, Some((3, 3, -2))),
-    Placed(9, 0, None),
-    Placed(0, 1, Some((0, 0, -2))),
-    Placed(1, 1, Some((5, 5, -2))),
-    Placed(2, 1, Some((10, 10, -2))),
-    Placed(3, 1, Some((10, 10, -1))),
-    Placed(4, 1, Some((10, 10, 0))),
-    Placed(5, 1, Some((10, 10, 1))),
-    Placed(6, 1, Some((10, 10, 2))),
-    Placed(7, 1, Some((7, 7, 2))),
-    Placed(8, 1, Some((4, 4, -2))),
-    Placed(0, 2, Some((0, 0, -2))),
-    Placed(1, 2, Some((0, 0, -1))),
-    Placed(2, 2, Some((0, 0, 0))),
-    Placed(3, 2, Some((0, 0, 1))),
-    Placed(4, 2, Some((0, 0, 2))),
-    Placed(5, 2, Some((-3, -3, 2))),
-    Placed(6, 2, Some((-6, -6, 2))),
-    Placed(7, 2, Some((-9, -9, 2))),
-    Placed(8, 2, Some((-12, -12, -2))),
+const STAIR_NODES: [Node<Placed>; 28] = [
+    Node(0, 0, Some((0, 0, -2))),
+    Node(1, 0, Some((5, 0, -1))),
+    Node(2, 0, Some((7, 4, -2))),
+    Node(3, 0, Some((7, 4, -1))),
+    Node(4, 0, Some((7, 4, 0))),
+    Node(5, 0, Some((7, 4, 1))),
+    Node(6, 0, Some((7, 4, 2))),
+    Node(7, 0, Some((6, 3, -2))),
+    Node(8, 0, Some((3, 3, -2))),
+    Node(9, 0, None),
+    Node(0, 1, Some((0, 0, -2))),
+    Node(1, 1, Some((5, 5, -2))),
+    Node(2, 1, Some((10, 10, -2))),
+    Node(3, 1, Some((10, 10, -1))),
+    Node(4, 1, Some((10, 10, 0))),
+    Node(5, 1, Some((10, 10, 1))),
+    Node(6, 1, Some((10, 10, 2))),
+    Node(7, 1, Some((7, 7, 2))),
+    Node(8, 1, Some((4, 4, -2))),
+    Node(0, 2, Some((0, 0, -2))),
+    Node(1, 2, Some((0, 0, -1))),
+    Node(2, 2, Some((0, 0, 0))),
+    Node(3, 2, Some((0, 0, 1))),
+    Node(4, 2, Some((0, 0, 2))),
+    Node(5, 2, Some((-3, -3, 2))),
+    Node(6, 2, Some((-6, -6, 2))),
+    Node(7, 2, Some((-9, -9, 2))),
+    Node(8, 2, Some((-12, -12, -2))),
 ];
 
 // With several levels the bound takes the best pixels first, and the worst only where no row is free for a black pixel.
@@ -107,9 +117,9 @@ fn each_number_of_black_pixels(rt: HostRuntime) -> Result<(), Fail> {
     let photo = photo_bytes(rt.alloc(), b"P4 9 8\n", &STAIR)?;
     on_line(
         rt.alloc(),
-        face,
-        photo,
-        &Answers(9, &[1, 1, 1], &STAIR_NODES),
+        &face,
+        &photo,
+        |scorer| held_and_lent(scorer, 9, &[1, 1, 1], &STAIR_NODES),
     )
 }
 
@@ -125,27 +135,27 @@ const WIDE: [Shape; 6] = [
 
 const BLACK: [&[u8]; 5] = [b"###", b"###", b"###", b"###", b"###"];
 
-const WIDE_NODES: [Placed; 20] = [
-    Placed(0, 0, Some((6, 6, -2))),
-    Placed(1, 0, Some((10, 10, -2))),
-    Placed(2, 0, Some((5, 5, -2))),
-    Placed(3, 0, None),
-    Placed(0, 1, Some((10, 10, -2))),
-    Placed(1, 1, Some((5, 5, -2))),
-    Placed(2, 1, Some((0, 0, -2))),
-    Placed(3, 1, None),
-    Placed(0, 2, Some((4, 4, -2))),
-    Placed(1, 2, Some((4, 4, -2))),
-    Placed(2, 2, None),
-    Placed(0, 3, Some((-2, -2, -2))),
-    Placed(1, 3, Some((-2, -2, -2))),
-    Placed(2, 3, Some((2, 2, -2))),
-    Placed(3, 3, None),
-    Placed(0, 4, Some((-1, -1, -2))),
-    Placed(1, 4, None),
-    Placed(0, 5, None),
-    Placed(1, 5, None),
-    Placed(0, 6, None),
+const WIDE_NODES: [Node<Placed>; 20] = [
+    Node(0, 0, Some((6, 6, -2))),
+    Node(1, 0, Some((10, 10, -2))),
+    Node(2, 0, Some((5, 5, -2))),
+    Node(3, 0, None),
+    Node(0, 1, Some((10, 10, -2))),
+    Node(1, 1, Some((5, 5, -2))),
+    Node(2, 1, Some((0, 0, -2))),
+    Node(3, 1, None),
+    Node(0, 2, Some((4, 4, -2))),
+    Node(1, 2, Some((4, 4, -2))),
+    Node(2, 2, None),
+    Node(0, 3, Some((-2, -2, -2))),
+    Node(1, 3, Some((-2, -2, -2))),
+    Node(2, 3, Some((2, 2, -2))),
+    Node(3, 3, None),
+    Node(0, 4, Some((-1, -1, -2))),
+    Node(1, 4, None),
+    Node(0, 5, None),
+    Node(1, 5, None),
+    Node(0, 6, None),
 ];
 
 // Right of a photograph all is white, though its padding is black, and pixels there still have what they earn anywhere.
@@ -155,8 +165,8 @@ fn right_of_the_photograph(rt: HostRuntime) -> Result<(), Fail> {
     let photo = photo_bytes(rt.alloc(), b"P4 3 5\n", &BLACK)?;
     on_line(
         rt.alloc(),
-        face,
-        photo,
-        &Answers(3, &[1, 1, 2, 1, 3, 4], &WIDE_NODES),
+        &face,
+        &photo,
+        |scorer| held_and_lent(scorer, 3, &[1, 1, 2, 1, 3, 4], &WIDE_NODES),
     )
 }

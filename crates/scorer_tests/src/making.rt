@@ -1,13 +1,12 @@
 // Faces and photographs to score, and what is asked of their scorer.
 ghost use Rattle.std.specs.Prelude.{◌≡◌, IfOk, Ok, OnOk};
 ghost use Rattle.face.specs.Verdict.{face_verdict};
-ghost use Rattle.printed.specs.Scored.{line_meaning};
-ghost use Rattle.scorer.specs.Meaning.{Meaning};
 
-use checks::check;
+use checks::lawful;
 use face::Face;
 use photo::Photograph;
 use printed::Printed;
+use scorer::{Scorer, Window, check_window};
 use std::alloc::Global;
 use std::test::*;
 
@@ -24,6 +23,13 @@ pub(crate) struct Shape<'a>(
     pub(crate) &'a [u32],
 );
 
+// The bytes of a template, before its words.
+fn template(shape: &Shape) -> [u8; 8] {
+    let Shape(setwidth, width, prior, _) = *shape;
+    let [low, high] = prior.to_le_bytes();
+    [b'x', setwidth, width, 0, low, high, 0, 0]
+}
+
 // The bytes of a face.
 pub(crate) fn face_bytes(
     heap: Global,
@@ -33,79 +39,61 @@ pub(crate) fn face_bytes(
 ) -> Result<Vec<u8>, Fail>
     ensures { IfOk result (λ v. face_verdict v.items ≡ Ok tt) }
 {
-    check(levels.len() <= 4 && shapes.len() <= 64)?;
-    let mut bytes = Vec::new(heap);
-    bytes.extend_from_slice(&[shapes.len() as u8, 0, levels.len() as u8, height])?;
-    for Level(gamma, beta) in levels {
-        bytes.extend_from_slice(&gamma.to_le_bytes())?;
-        bytes.extend_from_slice(&beta.to_le_bytes())?;
-    }
-    for Shape(setwidth, width, prior, _) in shapes {
-        bytes.extend_from_slice(&[b'x', *setwidth, *width, 0])?;
-        bytes.extend_from_slice(&prior.to_le_bytes())?;
-        bytes.extend_from_slice(&[0, 0])?;
-    }
-    for Shape(_, _, _, words) in shapes {
-        for word in words.iter() {
-            bytes.extend_from_slice(&word.to_le_bytes())?;
-        }
-    }
-    let Ok(()) = face::check(&bytes) else {
-        return Err(Fail::new("the face is refused"));
-    };
+    let count = u8::try_from(shapes.len())?;
+    let depth = u8::try_from(levels.len())?;
+    let mut bytes = [count, 0, depth, height].to_vec(heap)?;
+    let weights = levels.iter().flat_map(|Level(gamma, beta)| [*gamma, *beta]);
+    bytes.extend(weights.flat_map(|weight| weight.to_le_bytes()))?;
+    bytes.extend(shapes.iter().flat_map(template))?;
+    let words = shapes.iter().flat_map(|Shape(_, _, _, words)| words.iter());
+    bytes.extend(words.flat_map(|word| word.to_le_bytes()))?;
+    lawful(face::check(&bytes))?;
     Ok(bytes)
 }
 
+// The bits of a byte, from the left.
+const BITS: [u8; 8] = [0x80, 0x40, 0x20, 0x10, 8, 4, 2, 1];
+
 // The byte of eight pixels or fewer, `#` for black. Padding is black too.
 fn packed(pixels: &[u8]) -> u8 {
-    let mut byte = 0xFFu8;
-    for (i, pixel) in pixels.iter().enumerate() {
-        if *pixel != b'#' && i < 8 {
-            byte ^= 0x80 >> i;
-        }
-    }
-    byte
+    let white = pixels.iter().zip(BITS).filter(|(pixel, _)| **pixel != b'#');
+    white.fold(0xFF, |byte, (_, bit)| byte ^ bit)
 }
 
 // The bytes of a photograph, drawn row by row.
 pub(crate) fn photo_bytes(heap: Global, header: &[u8], rows: &[&[u8]]) -> Result<Vec<u8>, Fail> {
     let mut bytes = header.to_vec(heap)?;
-    for row in rows.iter() {
-        for eight in row.chunks(8) {
-            bytes.push(packed(eight))?;
-        }
-    }
+    bytes.extend(rows.iter().flat_map(|row| row.chunks(8)).map(packed))?;
     Ok(bytes)
 }
 
-// What is asked of a scorer once it is made, and what is then known of its line.
-pub(crate) trait Questions {
-    ghost shown: { Self → Meaning → Type 0 } = { λ _ _. Unit {0} };
-
-    fn ask(&self, scorer: &Printed) -> Result<(), Fail>
-        ensures { OnOk result (shown self.now (line_meaning scorer.now.face.bytes.now scorer.now.photo)) };
-}
-
 // Makes the scorer of a face and a photograph, and asks.
-pub(crate) fn on_line<Q: Questions>(
+pub(crate) fn on_line<F: FnOnce(&Printed) -> Result<(), Fail>>(
     heap: Global,
-    face_bytes: Vec<u8>,
-    photo_bytes: Vec<u8>,
-    questions: &Q,
+    face_bytes: &[u8],
+    photo_bytes: &[u8],
+    ask: F,
 ) -> Result<(), Fail>
-    ensures { OnOk result (face_verdict face_bytes.items ≡ Ok tt) }
+    requires { F.IsAlwaysCallable ask }
+    ensures { OnOk result (face_verdict face_bytes.now ≡ Ok tt) }
 {
-    let Ok(()) = face::check(&face_bytes) else {
-        return Err(Fail::new("the face is refused"));
-    };
-    let face = Face::new(&face_bytes);
+    lawful(face::check(face_bytes))?;
+    let face = Face::new(face_bytes);
     let rows = face.height() + 4;
-    let Ok(header) = photo::check(&photo_bytes, rows) else {
-        return Err(Fail::new("the photograph is refused"));
-    };
-    let photograph = Photograph::new(&photo_bytes, rows, header);
+    let header = lawful(photo::check(photo_bytes, rows))?;
+    let photograph = Photograph::new(photo_bytes, rows, header);
     let columns = printed::gather(heap, &face, &photograph)?;
     let tables = printed::tabulate(heap, &face)?;
     let scorer = Printed::new(face, photograph, &columns, &tables);
-    questions.ask(&scorer)
+    ask(&scorer)
+}
+
+// The window over a scorer. Fails where it is refused.
+pub(crate) fn window<S: Scorer + Copy>(
+    below: S,
+    first: usize,
+    width: usize,
+) -> Result<Window<S>, Fail> {
+    lawful(check_window(&below, first, width))?;
+    Ok(Window::new(below, first, width))
 }

@@ -1,27 +1,19 @@
 // A line of pixels without order: what holds at every node.
-ghost use Rattle.std.specs.Prelude.{◌≡◌, true, OnOk};
+ghost use Rattle.std.specs.Prelude.{◌≡◌, OnOk};
 ghost use Rattle.scorer_tests.specs.Told.{Alike};
 
-use super::making::{Level, Questions, Shape, face_bytes, on_line};
-use checks::{check, check_eq};
+use super::making::{Level, Shape, face_bytes, on_line, window};
+use checks::{Noise, check, check_eq};
 use printed::Printed;
-use scorer::{PlacedScorer, Scorer, Window, check_window};
-use std::alloc::Global;
+use scorer::{PlacedScorer, check_window};
+use std::alloc::{AllocError, Global};
 use std::test::*;
-
-// The number after `seed`.
-fn next(seed: u32) -> u32 {
-    seed.wrapping_mul(1_664_525).wrapping_add(1_013_904_223)
-}
 
 // A photograph of 61 columns and 9 rows.
 fn noise(heap: Global) -> Result<Vec<u8>, Fail> {
     let mut bytes = b"P4 61 9\n".to_vec(heap)?;
-    let mut seed = 2_024u32;
-    for _ in 0..72 {
-        seed = next(seed);
-        bytes.push((seed >> 24) as u8)?;
-    }
+    let numbers = Noise::new(2_024).skip(1).take(72);
+    bytes.extend(numbers.map(|number| number.to_be_bytes()[0]))?;
     Ok(bytes)
 }
 
@@ -35,52 +27,56 @@ const SHAPES: [Shape; 4] = [
     Shape(7, 2, 0, &[14, 17, 0, 17, 14, 0]),
 ];
 
-struct EveryNode;
+// A node, and what is told of it.
+#[derive(Drop)]
+struct Told {
+    x: usize,
+    t: usize,
+    bound: i64,
+    exact: i64,
+    shift: i64,
+}
 
-impl Questions for EveryNode {
-    fn ask(&self, scorer: &Printed) -> Result<(), Fail> {
-        let mut found = 0usize;
-        let mut apart = 0usize;
-        for t in 0..4 {
-            for x in 0..61 {
-                if let (Some(bound), Some(exact), Some(shift)) = (
-                    scorer.bound(x, t),
-                    scorer.exact(x, t),
-                    scorer.shift(x, t),
-                ) {
-                    check(exact <= bound)?;
-                    check(shift >= -2 && shift <= 2)?;
-                    found = found.wrapping_add(1);
-                    if exact < bound {
-                        apart = apart.wrapping_add(1);
-                    }
-                }
-            }
-        }
+// What is told of a column and a template, if they are a node.
+fn told_at<S: PlacedScorer>(scorer: &S, x: usize, t: usize) -> Option<Told> {
+    Some(Told {
+        x,
+        t,
+        bound: scorer.bound(x, t)?,
+        exact: scorer.exact(x, t)?,
+        shift: scorer.shift(x, t)?,
+    })
+}
 
-        // 61, 60, 57 and 55 nodes.
-        check_eq(found, 233)?;
-        check(apart >= 1 && apart < 172)?;
-        Ok(())
-    }
+// What is told of all nodes of a line of four templates and at most 61 columns.
+fn all_told<S: PlacedScorer>(heap: Global, scorer: &S) -> Result<Vec<Told>, AllocError> {
+    (0..4)
+        .flat_map(|t| (0..61).filter_map(move |x| told_at(scorer, x, t)))
+        .collect(heap)
+}
+
+// Asks every node of the line.
+fn ask_nodes(heap: Global, scorer: &Printed) -> Result<(), Fail> {
+    let nodes = all_told(heap, scorer)?;
+    check(nodes.iter().all(|node| node.exact <= node.bound))?;
+    check(nodes.iter().all(|node| (-2..=2).contains(&node.shift)))?;
+    // 61, 60, 57 and 55 nodes.
+    check_eq(nodes.len(), 233)?;
+    let apart = nodes.iter().filter(|node| node.exact < node.bound).count();
+    check((1..172).contains(&apart))
 }
 
 // No exact score is above its bound, and some are below.
 #[test]
 fn exact_never_above_bound(rt: HostRuntime) -> Result<(), Fail> {
     let face = face_bytes(rt.alloc(), 5, &LEVELS, &SHAPES)?;
-    on_line(rt.alloc(), face, noise(rt.alloc())?, &EveryNode)
-}
-
-// Whether two answers are the same.
-fn same(one: Option<i64>, other: Option<i64>) -> bool
-    ensures { result ≡ true → one ≡ other }
-{
-    match (one, other) {
-        (Some(one), Some(other)) => one == other,
-        (None, None) => true,
-        _ => false,
-    }
+    let photo = noise(rt.alloc())?;
+    on_line(
+        rt.alloc(),
+        &face,
+        &photo,
+        |scorer| ask_nodes(rt.alloc(), scorer),
+    )
 }
 
 // Whether a column and a template of a window have the answers that are told `first` columns further on below.
@@ -94,14 +90,14 @@ fn alike<S: PlacedScorer, W: PlacedScorer>(
     ensures { OnOk result (Alike (W.Scorer.meaning window.now) (S.Scorer.meaning below.now) first x t) }
 {
     check(first <= 61 && x <= 61)?;
-    check(same(window.bound(x, t), below.bound(first + x, t)))?;
-    check(same(window.exact(x, t), below.exact(first + x, t)))?;
-    check_eq(window.shift(x, t), below.shift(first + x, t))?;
-    Ok(())
+    check(window.bound(x, t) == below.bound(first + x, t))?;
+    check(window.exact(x, t) == below.exact(first + x, t))?;
+    check_eq(window.shift(x, t), below.shift(first + x, t))
 }
 
 // Compares all nodes of a window with those below, and tells how many there are.
 fn compare<S: PlacedScorer, W: PlacedScorer>(
+    heap: Global,
     window: &W,
     below: &S,
     first: usize,
@@ -109,43 +105,35 @@ fn compare<S: PlacedScorer, W: PlacedScorer>(
     ensures { OnOk result ((W.Scorer.meaning window.now).count ≡ 4) }
 {
     check(window.count() == 4)?;
-    let mut found = 0usize;
-    for t in 0..4 {
-        for x in 0..61 {
-            if window.exact(x, t).is_some() {
-                alike(window, below, first, x, t)?;
-                found = found.wrapping_add(1);
-            }
-        }
+    let nodes = all_told(heap, window)?;
+    for node in &nodes {
+        alike(window, below, first, node.x, node.t)?;
     }
-    Ok(found)
+    Ok(nodes.len())
 }
 
-struct EveryWindow;
-
-impl Questions for EveryWindow {
-    fn ask(&self, scorer: &Printed) -> Result<(), Fail> {
-        for first in 0..52usize {
-            let Ok(()) = check_window(&scorer, first, 10) else {
-                return Err(Fail::new("the window is refused"));
-            };
-            let window = Window::new(scorer, first, 10);
-            // 10, 9, 6 and 4 nodes.
-            check_eq(compare(&window, scorer, first)?, 29)?;
-            let Ok(()) = check_window(&&window, 3, 6) else {
-                return Err(Fail::new("the window over the window is refused"));
-            };
-            // 6, 5, 2 and none.
-            check_eq(compare(&Window::new(&window, 3, 6), &window, 3)?, 13)?;
-        }
-        check(check_window(&scorer, 52, 10).is_err())?;
-        Ok(())
+// Asks every window of ten columns, and a window over each.
+fn ask_windows(heap: Global, scorer: &Printed) -> Result<(), Fail> {
+    for first in 0..52usize {
+        let outer = window(scorer, first, 10)?;
+        // 10, 9, 6 and 4 nodes.
+        check_eq(compare(heap, &outer, scorer, first)?, 29)?;
+        let inner = window(&outer, 3, 6)?;
+        // 6, 5, 2 and none.
+        check_eq(compare(heap, &inner, &outer, 3)?, 13)?;
     }
+    check(check_window(&scorer, 52, 10).is_err())
 }
 
 // Every window of ten columns tells at each of its nodes what is told below, and so does a window over it.
 #[test]
 fn windows_as_below(rt: HostRuntime) -> Result<(), Fail> {
     let face = face_bytes(rt.alloc(), 5, &LEVELS, &SHAPES)?;
-    on_line(rt.alloc(), face, noise(rt.alloc())?, &EveryWindow)
+    let photo = noise(rt.alloc())?;
+    on_line(
+        rt.alloc(),
+        &face,
+        &photo,
+        |scorer| ask_windows(rt.alloc(), scorer),
+    )
 }

@@ -1,55 +1,43 @@
 // What a sheet answers: at each node, at the edges, and at the largest numbers.
-use super::sample::sample;
+use super::sample::{SAMPLE, opened};
 use scorer::Scorer;
-use sheet::Sheet;
 use std::test::Fail;
 
 // A column and a template, with the bound and the exact score there.
-struct Case(usize, usize, Option<i64>, Option<i64>);
+struct Case(usize, usize, Option<(i64, i64)>);
 
 const CASES: [Case; 17] = [
-    Case(0, 0, Some(0), Some(-1)),
-    Case(1, 0, Some(4_000_000), Some(-4_000_000)),
-    Case(2, 0, Some(66_051), Some(258)),
-    Case(3, 0, None, None),
-    Case(0, 1, Some(5), Some(5)),
-    Case(1, 1, Some(-299), Some(-300)),
-    Case(2, 1, None, None),
-    Case(3, 1, None, None),
-    Case(0, 2, None, None),
-    Case(1, 2, None, None),
-    Case(usize::MAX, 0, None, None),
-    Case(usize::MAX, 1, None, None),
-    Case(usize::MAX - 1, 1, None, None),
-    Case(0, usize::MAX, None, None),
-    Case(1, usize::MAX, None, None),
-    Case(usize::MAX, 2, None, None),
-    Case(usize::MAX, usize::MAX, None, None),
+    Case(0, 0, Some((0, -1))),
+    Case(1, 0, Some((4_000_000, -4_000_000))),
+    Case(2, 0, Some((66_051, 258))),
+    Case(3, 0, None),
+    Case(0, 1, Some((5, 5))),
+    Case(1, 1, Some((-299, -300))),
+    Case(2, 1, None),
+    Case(3, 1, None),
+    Case(0, 2, None),
+    Case(1, 2, None),
+    Case(usize::MAX, 0, None),
+    Case(usize::MAX, 1, None),
+    Case(usize::MAX - 1, 1, None),
+    Case(0, usize::MAX, None),
+    Case(1, usize::MAX, None),
+    Case(usize::MAX, 2, None),
+    Case(usize::MAX, usize::MAX, None),
 ];
 
 #[test]
 fn scores(rt: HostRuntime) -> Result<(), Fail> {
-    let bytes = &sample()[0..54];
-    let Ok(()) = sheet_file::check(bytes) else {
-        return Err(Fail::new("the sample is refused"));
-    };
-    let sheet = Sheet::new(bytes);
-    for Case(x, t, bound, exact) in CASES.iter() {
-        assert_eq!(rt;
-            (sheet.bound(*x, *t), sheet.exact(*x, *t)),
-            (*bound, *exact)
-        );
+    let sheet = opened(&SAMPLE)?;
+    for Case(x, t, scores) in &CASES {
+        assert_eq!(rt; (sheet.bound(*x, *t), sheet.exact(*x, *t)), scores.unzip());
     }
     Ok(())
 }
 
 #[test]
 fn columns_and_templates(rt: HostRuntime) -> Result<(), Fail> {
-    let bytes = &sample()[0..54];
-    let Ok(()) = sheet_file::check(bytes) else {
-        return Err(Fail::new("the sample is refused"));
-    };
-    let sheet = Sheet::new(bytes);
+    let sheet = opened(&SAMPLE)?;
     assert_eq!(rt; (sheet.width(), sheet.count()), (3, 2));
     assert_eq!(rt; (sheet.setwidth(0), sheet.setwidth(1)), (Some(1), Some(2)));
     assert_eq!(rt;

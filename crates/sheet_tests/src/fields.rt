@@ -1,98 +1,100 @@
 // Length, head and setwidths of a sheet: each refusal with its place, and each limit that is still lawful.
-use super::sample::{sample, told};
+use super::sample::SAMPLE;
+use checks::told;
+use sheet_file::check;
 use std::test::Fail;
 
-// Width and count of a sheet, and what the check then tells of the 54 bytes.
-struct Head(u16, u16, u8, usize);
+// Width and count of a sheet, and what is then refused of the sample, by number and place.
+struct Head(u16, u16, Option<(u8, usize)>);
 
 const HEADS: [Head; 18] = [
-    Head(3, 2, 0, 0),
-    Head(0, 2, 32, 0),
-    Head(1, 2, 33, 54),
-    Head(2, 2, 33, 54),
-    Head(259, 2, 33, 54),
-    Head(2048, 2, 33, 54),
-    Head(2049, 2, 32, 0),
-    Head(65535, 2, 32, 0),
-    Head(3, 0, 32, 2),
-    Head(3, 1, 33, 54),
-    Head(3, 64, 33, 54),
-    Head(3, 65, 32, 2),
-    Head(3, 258, 32, 2),
-    Head(3, 65535, 32, 2),
-    Head(2048, 64, 33, 54),
-    Head(2048, 65, 32, 2),
-    Head(0, 0, 32, 0),
-    Head(2049, 65, 32, 0),
+    Head(3, 2, None),
+    Head(0, 2, Some((32, 0))),
+    Head(1, 2, Some((33, 54))),
+    Head(2, 2, Some((33, 54))),
+    Head(259, 2, Some((33, 54))),
+    Head(2048, 2, Some((33, 54))),
+    Head(2049, 2, Some((32, 0))),
+    Head(65535, 2, Some((32, 0))),
+    Head(3, 0, Some((32, 2))),
+    Head(3, 1, Some((33, 54))),
+    Head(3, 64, Some((33, 54))),
+    Head(3, 65, Some((32, 2))),
+    Head(3, 258, Some((32, 2))),
+    Head(3, 65535, Some((32, 2))),
+    Head(2048, 64, Some((33, 54))),
+    Head(2048, 65, Some((32, 2))),
+    Head(0, 0, Some((32, 0))),
+    Head(2049, 65, Some((32, 0))),
 ];
 
 #[test]
-fn each_head(rt: HostRuntime) {
-    for Head(width, count, number, place) in HEADS.iter() {
-        let width = width.to_le_bytes();
-        let count = count.to_le_bytes();
-        let mut sheet = sample();
-        sheet[0] = width[0];
-        sheet[1] = width[1];
-        sheet[2] = count[0];
-        sheet[3] = count[1];
-        assert_eq!(rt; told(&sheet[0..54]), (*number, *place));
-        let alone = if *number == 32 { (32, *place) } else { (33, 4) };
-        assert_eq!(rt; told(&sheet[0..4]), alone);
-        assert_eq!(rt; told(&sheet[0..3]), (31, 3));
+fn each_head(rt: HostRuntime) -> Result<(), Fail> {
+    for Head(width, count, refused) in &HEADS {
+        let mut sheet = SAMPLE;
+        sheet[0..2].copy_from_slice(&width.to_le_bytes());
+        sheet[2..4].copy_from_slice(&count.to_le_bytes());
+        assert_eq!(rt; told(check(&sheet))?, *refused);
+        let alone = refused
+            .filter(|(number, _)| *number == 32)
+            .unwrap_or((33, 4));
+        assert_eq!(rt; told(check(&sheet[0..4]))?, Some(alone));
+        assert_eq!(rt; told(check(&sheet[0..3]))?, Some((31, 3)));
     }
+    Ok(())
 }
 
 #[test]
-fn each_length(rt: HostRuntime) {
+fn each_length(rt: HostRuntime) -> Result<(), Fail> {
     for length in 0..54usize {
-        let expected = if length < 4 {
-            (31, length)
-        } else {
-            (33, length)
-        };
-        assert_eq!(rt; told(&sample()[0..length]), expected);
+        let number = if length < 4 { 31 } else { 33 };
+        assert_eq!(rt; told(check(&SAMPLE[0..length]))?, Some((number, length)));
     }
-    assert_eq!(rt; told(&sample()[0..54]), (0, 0));
-    assert_eq!(rt; told(&sample()[0..55]), (33, 55));
+    let mut bytes = SAMPLE.to_vec(rt.alloc())?;
+    assert_eq!(rt; told(check(&bytes))?, None);
+    bytes.push(0)?;
+    assert_eq!(rt; told(check(&bytes))?, Some((33, 55)));
+    Ok(())
 }
 
 #[test]
-fn one_column_and_one_template(rt: HostRuntime) {
+fn one_column_and_one_template(rt: HostRuntime) -> Result<(), Fail> {
     let sheet: [u8; 14] = [1, 0, 1, 0, 1, 5, 0, 0, 0, 6, 0, 0, 0, 0];
-    assert_eq!(rt; told(&sheet[0..12]), (33, 12));
-    assert_eq!(rt; told(&sheet[0..13]), (0, 0));
-    assert_eq!(rt; told(&sheet[0..14]), (33, 14));
+    assert_eq!(rt; told(check(&sheet[0..12]))?, Some((33, 12)));
+    assert_eq!(rt; told(check(&sheet[0..13]))?, None);
+    assert_eq!(rt; told(check(&sheet[0..14]))?, Some((33, 14)));
+    Ok(())
 }
 
-// The setwidths of both templates, and what the check then tells.
-struct Setwidths(u8, u8, u8, usize);
+// The setwidths of both templates, and what is then refused, by number and place.
+struct Setwidths(u8, u8, Option<(u8, usize)>);
 
 const SETWIDTHS: [Setwidths; 13] = [
-    Setwidths(1, 2, 0, 0),
-    Setwidths(0, 2, 34, 4),
-    Setwidths(3, 2, 0, 0),
-    Setwidths(4, 2, 0, 0),
-    Setwidths(64, 2, 0, 0),
-    Setwidths(65, 2, 34, 4),
-    Setwidths(255, 2, 34, 4),
-    Setwidths(1, 0, 34, 5),
-    Setwidths(1, 64, 0, 0),
-    Setwidths(1, 65, 34, 5),
-    Setwidths(1, 255, 34, 5),
-    Setwidths(64, 64, 0, 0),
-    Setwidths(65, 0, 34, 4),
+    Setwidths(1, 2, None),
+    Setwidths(0, 2, Some((34, 4))),
+    Setwidths(3, 2, None),
+    Setwidths(4, 2, None),
+    Setwidths(64, 2, None),
+    Setwidths(65, 2, Some((34, 4))),
+    Setwidths(255, 2, Some((34, 4))),
+    Setwidths(1, 0, Some((34, 5))),
+    Setwidths(1, 64, None),
+    Setwidths(1, 65, Some((34, 5))),
+    Setwidths(1, 255, Some((34, 5))),
+    Setwidths(64, 64, None),
+    Setwidths(65, 0, Some((34, 4))),
 ];
 
 #[test]
-fn each_setwidth(rt: HostRuntime) {
-    for Setwidths(first, second, number, place) in SETWIDTHS.iter() {
-        let mut sheet = sample();
+fn each_setwidth(rt: HostRuntime) -> Result<(), Fail> {
+    for Setwidths(first, second, refused) in &SETWIDTHS {
+        let mut sheet = SAMPLE;
         sheet[4] = *first;
         sheet[5] = *second;
-        assert_eq!(rt; told(&sheet[0..54]), (*number, *place));
-        assert_eq!(rt; told(&sheet[0..53]), (33, 53));
+        assert_eq!(rt; told(check(&sheet))?, *refused);
+        assert_eq!(rt; told(check(&sheet[0..53]))?, Some((33, 53)));
     }
+    Ok(())
 }
 
 #[test]
@@ -100,18 +102,16 @@ fn the_largest_sheet(rt: HostRuntime) -> Result<(), Fail> {
     let mut sheet = vec![in rt.alloc(); 0u8; 1_048_644]?;
     sheet[1] = 8;
     sheet[2] = 64;
-    assert_eq!(rt; told(&sheet), (34, 4));
-    for setwidth in sheet.iter_mut().skip(4).take(64) {
-        *setwidth = 64;
-    }
-    assert_eq!(rt; told(&sheet), (0, 0));
+    assert_eq!(rt; told(check(&sheet))?, Some((34, 4)));
+    sheet[4..68].fill(64);
+    assert_eq!(rt; told(check(&sheet))?, None);
     // The last template has its last node at 1,048,132.
     assert!(rt; sheet.len() == 1_048_644);
     sheet[1_048_140] = 1;
-    assert_eq!(rt; told(&sheet), (0, 0));
+    assert_eq!(rt; told(check(&sheet))?, None);
     sheet[1_048_132] = 1;
-    assert_eq!(rt; told(&sheet), (36, 1_048_132));
+    assert_eq!(rt; told(check(&sheet))?, Some((36, 1_048_132)));
     sheet.push(0)?;
-    assert_eq!(rt; told(&sheet), (33, 1_048_645));
+    assert_eq!(rt; told(check(&sheet))?, Some((33, 1_048_645)));
     Ok(())
 }

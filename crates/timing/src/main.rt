@@ -10,50 +10,48 @@ use made::{make_face, make_photograph};
 use photo::Photograph;
 use printed::{Printed, gather, tabulate};
 use scorer::Scorer;
+use std::fmt;
 use std::time::Instant;
 
 // The sum of a score over all nodes, and how many there are.
-#[derive(Clone, Copy)]
+#[derive(Clone, Copy, Default)]
 struct Total {
     sum: i64,
     nodes: u64,
 }
 
-fn add(total: Total, score: Option<i64>) -> Total {
-    match score {
-        Some(score) => Total {
-            sum: total.sum.wrapping_add(score),
-            nodes: total.nodes.wrapping_add(1),
-        },
-        None => total,
-    }
-}
-
-fn all_bounds(scorer: &Printed) -> Total {
-    let mut total = Total { sum: 0, nodes: 0 };
-    for t in 0..scorer.count() {
-        for x in 0..scorer.width() {
-            total = add(total, scorer.bound(x, t));
+impl Total {
+    // The total with the score of one node more.
+    fn with(self, score: i64) -> Total {
+        Total {
+            sum: self.sum.wrapping_add(score),
+            nodes: self.nodes.wrapping_add(1),
         }
     }
-    total
 }
 
-fn all_exact(scorer: &Printed) -> Total {
-    let mut total = Total { sum: 0, nodes: 0 };
-    for t in 0..scorer.count() {
-        for x in 0..scorer.width() {
-            total = add(total, scorer.exact(x, t));
-        }
+impl fmt::Display for Total {
+    fn fmt<W: fmt::Write>(&self, f: &mut fmt::Formatter<W>) -> fmt::Result {
+        let Total { sum, nodes } = *self;
+        write!(f, "{nodes} nodes, sum {sum}")
     }
-    total
 }
 
+// The total of a score that the scorer is asked at each column and template.
+fn over_nodes<F: Fn(&Printed, usize, usize) -> Option<i64>>(scorer: &Printed, score: F) -> Total
+    requires { F.IsAlwaysCallable score }
+{
+    let score = &score;
+    (0..scorer.count())
+        .flat_map(|t| (0..scorer.width()).filter_map(move |x| score(scorer, x, t)))
+        .fold(Total::default(), Total::with)
+}
+
+// Prints a total, and to the error output what one question took. `main` reads the clock around each sum itself: in a
+// function that times and prints, taking the question, one exact score took 1,670 ns and not 1,160.
 fn show(rt: &HostRuntime, what: &str, total: Total, nanos: u128) -> anyhow::Result<()> {
-    let Total { sum, nodes } = total;
-    println!(rt; "{what}: {nodes} nodes, sum {sum}")?;
-    if nodes > 0 {
-        let each = nanos / u128::from(nodes);
+    println!(rt; "{what}: {total}")?;
+    if let Some(each) = nanos.checked_div(u128::from(total.nodes)) {
         eprintln!(rt; "{what}: {each} ns each")?;
     }
     Ok(())
@@ -81,9 +79,9 @@ fn main(rt: HostRuntime) -> anyhow::Result<()> {
     eprintln!(rt; "gathered in {gathered} us, tabulated in {tabulated} us")?;
     let scorer = Printed::new(face, photograph, &columns, &tables);
     let start = Instant::now(&rt)?;
-    let bounds = all_bounds(&scorer);
+    let bounds = over_nodes(&scorer, |scorer, x, t| scorer.bound(x, t));
     show(&rt, "bounds", bounds, start.elapsed(&rt)?.as_nanos())?;
     let start = Instant::now(&rt)?;
-    let exact = all_exact(&scorer);
+    let exact = over_nodes(&scorer, |scorer, x, t| scorer.exact(x, t));
     show(&rt, "exact scores", exact, start.elapsed(&rt)?.as_nanos())
 }

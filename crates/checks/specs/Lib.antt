@@ -1,0 +1,2 @@
+pub mod Noise
+pub mod Told
