@@ -48,14 +48,10 @@ pub fn told<T: Drop>(answer: Result<T, Refusal>) -> Result<Option<(u8, usize)>, 
     Ok(Some((number, refusal.place())))
 }
 
-// Hands on what is answered. Fails where something is refused, and shows its number and place.
+// Hands on what is answered. Fails where something is refused, and shows the refusal.
 pub fn lawful<T: Drop>(answer: Result<T, Refusal>) -> Result<T, Fail>
     ensures value { IfOk result (λ x. answer ≡ Ok x) }
     ensures exactly { is_ok result ≡ is_ok answer }
 {
-    answer.map_err(|refusal| {
-        let number = refusal.number();
-        let place = refusal.place();
-        Fail::new(format_args!("refused with {number:?} at {place}"))
-    })
+    answer.map_err(|refusal| Fail::new(format_args!("{refusal}")))
 }
