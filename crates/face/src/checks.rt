@@ -19,6 +19,14 @@ struct Head<'a> {
     ghost headed: { Headed bytes.now },
 }
 
+// A word of the columns of all boxes, by its number.
+#[derive(Clone, Copy)]
+struct Word<'a> {
+    head: Head<'a>,
+    number: usize,
+    ghost few: { number < 2 ^ 32 },
+}
+
 // The size of the file, the three numbers of its head, and whether levels and templates are there.
 fn check_head(bytes: &[u8]) -> Result<(), Refusal>
     ensures { result ≡ head_verdict bytes.now }
@@ -181,14 +189,6 @@ fn disjoint(v: u32, w: u32) -> bool
     v & w == 0
 }
 
-// Word `j` of all columns.
-fn word_at(bytes: &[u8], j: usize) -> u32
-    requires { j < 2 ^ 32 }
-    ensures { result ≡ word_at bytes.now j }
-{
-    u32::at(bytes, word_start(bytes, j))
-}
-
 impl<'a> Head<'a> {
     // The head, once `check_head` refused nothing.
     fn new(bytes: &'a [u8]) -> Head<'a>
@@ -211,28 +211,21 @@ impl<'a> Head<'a> {
     {
         let length = self.bytes.len();
         ensure(
-            length == word_start(self.bytes, self.words()),
+            length == self.word(self.words()).start(),
             Refusal::FaceLength { length },
         )
     }
 
-    // Whether word `j` has no pixel of any of the `earlier` words before it.
-    fn word_apart(&self, j: usize, earlier: usize) -> bool
-        requires { (j < 2 ^ 32) × (earlier ≤ j) }
-        ensures { result ≡ each earlier (λ k. apart (word_at self.now.bytes.now j) (word_at self.now.bytes.now (j - (k + 1)))) }
-    {
-        let word = word_at(self.bytes, j);
-        (0..earlier).all(|k| disjoint(word, word_at(self.bytes, j - (k + 1))))
-    }
-
-    // Whether word `j` has no pixel below the box, and none that an earlier level of its column has.
-    fn word_lawful(&self, j: usize) -> bool
+    // Word `j` of all columns.
+    fn word(&self, j: usize) -> Word<'a>
         requires { j < 2 ^ 32 }
-        ensures { result ≡ word_lawful self.now.bytes.now j }
+        ensures head { result.head ≡ self.now }
+        ensures number { result.number ≡ j }
     {
-        let below = 1u64 << height(self.bytes);
-        let inside = u64::from(word_at(self.bytes, j)) < below;
-        inside && self.word_apart(j, j % levels(self.bytes))
+        Word {
+            head: *self,
+            number: j,
+        }
     }
 
     fn check_words(&self) -> Result<(), Refusal>
@@ -240,11 +233,47 @@ impl<'a> Head<'a> {
     {
         ensure_each(
             self.words(),
-            |j| self.word_lawful(j),
+            |j| self.word(j).lawful(),
             |j| Refusal::FaceWord {
-                byte: word_start(self.bytes, j),
+                byte: self.word(j).start(),
             },
         )
+    }
+}
+
+impl<'a> Word<'a> {
+    // Its first byte.
+    fn start(&self) -> usize
+        ensures { result ≡ word_start self.now.head.bytes.now self.now.number }
+    {
+        word_start(self.head.bytes, self.number)
+    }
+
+    // Its pixels.
+    fn pixels(&self) -> u32
+        ensures { result ≡ word_at self.now.head.bytes.now self.now.number }
+    {
+        u32::at(self.head.bytes, self.start())
+    }
+
+    // Whether it has no pixel of any of the `earlier` words before it.
+    fn apart(&self, earlier: usize) -> bool
+        requires { earlier ≤ self.now.number }
+        ensures { result ≡ each earlier (λ k. apart (word_at self.now.head.bytes.now self.now.number) (word_at self.now.head.bytes.now (self.now.number - (k + 1)))) }
+    {
+        let pixels = self.pixels();
+        let head = self.head;
+        let number = self.number;
+        (0..earlier).all(|k| disjoint(pixels, head.word(number - (k + 1)).pixels()))
+    }
+
+    // Whether it has no pixel below the box, and none that an earlier level of its column has.
+    fn lawful(&self) -> bool
+        ensures { result ≡ word_lawful self.now.head.bytes.now self.now.number }
+    {
+        let below = 1u64 << height(self.head.bytes);
+        let level = self.number % levels(self.head.bytes);
+        u64::from(self.pixels()) < below && self.apart(level)
     }
 }
 

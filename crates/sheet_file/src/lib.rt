@@ -3,7 +3,7 @@
 
 ghost use Rattle.std.specs.Prelude.{◌≡◌, ℕ, ◌/◌, ◌^◌, ◌<◌, ◌≤◌, Bool, Ok};
 ghost use Rattle.refusal.specs.First.{first_failing, IsFirst, Exactly};
-ghost use Rattle.sheet_file.specs.Fields.{width as width_of, count as count_of, entries, entry_start};
+ghost use Rattle.sheet_file.specs.Fields.{width as width_of, count as count_of, entries, entry_start, exact_at, bound_at};
 ghost use Rattle.sheet_file.specs.Laid.{SheetLaid};
 ghost use Rattle.sheet_file.specs.Verdict.{Headed, head_verdict, length_verdict, setwidth_lawful, setwidths_verdict, entry_node, score_within, scores_within, scores_ordered, score_lawful, scores_verdict, order_lawful, orders_verdict, checks_verdict, sheet_verdict};
 
@@ -15,6 +15,14 @@ use refusal::{Refusal, ensure, ensure_each};
 struct Head<'a> {
     bytes: &'a [u8],
     ghost headed: { Headed bytes.now },
+}
+
+// An entry of such bytes, by its number.
+#[derive(Clone, Copy)]
+struct Entry<'a> {
+    head: Head<'a>,
+    number: usize,
+    ghost few: { number < 2 ^ 32 },
 }
 
 // Whether the head is there, and both its numbers are in range.
@@ -73,13 +81,16 @@ impl<'a> Head<'a> {
         self.count() * self.width()
     }
 
-    // The first byte of entry `j`.
-    fn entry_start(&self, j: usize) -> usize
+    // Entry `j`.
+    fn entry(&self, j: usize) -> Entry<'a>
         requires { j < 2 ^ 32 }
-        ensures value { result ≡ entry_start self.now.bytes.now j }
-        ensures bound { result < 2 ^ 40 }
+        ensures head { result.head ≡ self.now }
+        ensures number { result.number ≡ j }
     {
-        4 + self.count() + 8 * j
+        Entry {
+            head: *self,
+            number: j,
+        }
     }
 
     // Whether the file ends where its last entry does.
@@ -88,7 +99,7 @@ impl<'a> Head<'a> {
     {
         let length = self.bytes.len();
         ensure(
-            length == self.entry_start(self.entries()),
+            length == self.entry(self.entries()).start(),
             Refusal::SheetLength { length },
         )
     }
@@ -112,43 +123,15 @@ impl<'a> Head<'a> {
         )
     }
 
-    // Whether entry `j` is a node: its template ends on the line.
-    fn entry_node(&self, j: usize) -> bool
-        requires { j < 2 ^ 32 }
-        ensures { result ≡ entry_node self.now.bytes.now j }
-    {
-        let width = self.width();
-        let setwidth = usize::from(u8::at(self.bytes, 4 + j / width));
-        j % width + setwidth <= width
-    }
-
-    // Whether both scores of entry `j` are in range.
-    fn scores_within(&self, j: usize) -> bool
-        requires { j < 2 ^ 32 }
-        ensures { result ≡ scores_within self.now.bytes.now j }
-    {
-        let at = self.entry_start(j);
-        score_within(i32::at(self.bytes, at)) && score_within(i32::at(self.bytes, at + 4))
-    }
-
-    // Whether the exact score of entry `j` is not above its bound.
-    fn scores_ordered(&self, j: usize) -> bool
-        requires { j < 2 ^ 32 }
-        ensures { result ≡ scores_ordered self.now.bytes.now j }
-    {
-        let at = self.entry_start(j);
-        i32::at(self.bytes, at) <= i32::at(self.bytes, at + 4)
-    }
-
     // Whether each node has its scores in range; an entry that is no node may hold anything.
     fn check_scores(&self) -> Result<(), Refusal>
         ensures { result ≡ scores_verdict self.now.bytes.now }
     {
         ensure_each(
             self.entries(),
-            |j| !self.entry_node(j) || self.scores_within(j),
+            |j| !self.entry(j).is_node() || self.entry(j).scores_within(),
             |j| Refusal::SheetScore {
-                byte: self.entry_start(j),
+                byte: self.entry(j).start(),
             },
         )
     }
@@ -159,11 +142,59 @@ impl<'a> Head<'a> {
     {
         ensure_each(
             self.entries(),
-            |j| !self.entry_node(j) || self.scores_ordered(j),
+            |j| !self.entry(j).is_node() || self.entry(j).scores_ordered(),
             |j| Refusal::SheetOrder {
-                byte: self.entry_start(j),
+                byte: self.entry(j).start(),
             },
         )
+    }
+}
+
+impl<'a> Entry<'a> {
+    // Its first byte.
+    fn start(&self) -> usize
+        ensures value { result ≡ entry_start self.now.head.bytes.now self.now.number }
+        ensures bound { result < 2 ^ 40 }
+    {
+        4 + self.head.count() + 8 * self.number
+    }
+
+    // Whether it is a node: its template ends on the line.
+    fn is_node(&self) -> bool
+        ensures { result ≡ entry_node self.now.head.bytes.now self.now.number }
+    {
+        let width = self.head.width();
+        let template = self.number / width;
+        let setwidth = usize::from(u8::at(self.head.bytes, 4 + template));
+        self.number % width + setwidth <= width
+    }
+
+    // Its exact score.
+    fn exact(&self) -> i32
+        ensures { result ≡ exact_at self.now.head.bytes.now self.now.number }
+    {
+        i32::at(self.head.bytes, self.start())
+    }
+
+    // Its bound.
+    fn bound(&self) -> i32
+        ensures { result ≡ bound_at self.now.head.bytes.now self.now.number }
+    {
+        i32::at(self.head.bytes, self.start() + 4)
+    }
+
+    // Whether both its scores are in range.
+    fn scores_within(&self) -> bool
+        ensures { result ≡ scores_within self.now.head.bytes.now self.now.number }
+    {
+        score_within(self.exact()) && score_within(self.bound())
+    }
+
+    // Whether its exact score is not above its bound.
+    fn scores_ordered(&self) -> bool
+        ensures { result ≡ scores_ordered self.now.head.bytes.now self.now.number }
+    {
+        self.exact() <= self.bound()
     }
 }
 
