@@ -1,1 +1,4 @@
+pub mod Blanks
+pub mod Rows
 pub mod Views
+pub mod Widths

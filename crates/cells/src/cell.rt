@@ -1,29 +1,35 @@
 // One cell of the memory that a search is lent.
 ghost use Rattle.std.specs.Prelude.{◌≡◌};
-ghost use Rattle.cells.specs.Blank.{blank};
+ghost use Rattle.cells.specs.Blank.{blank, standing};
 
-// A node's cell holds its standing score and its mark; a place's cell its total, whether it is reached, its last
+// A node's cell holds its standing score and its mark; a place's cell its total where a path leads there, its last
 // template, whether a newly marked node ends there, and a stop of the path.
-#[derive(Clone, Copy)]
+#[derive(Clone, Copy, Default)]
 pub struct Cell {
     pub score: i64,
     pub marked: bool,
+    pub total: Option<i64>,
     pub fresh: bool,
     pub template: usize,
     pub stop: usize,
 }
 
 impl Cell {
-    // The cell that is all zero.
+    // The cell that is all zero, unmarked and with no total.
     pub fn blank() -> Cell
         ensures { result ≡ blank }
     {
+        Cell::default()
+    }
+
+    // The cell of a place with this total and last template, and nothing else.
+    pub fn standing(total: Option<i64>, template: usize) -> Cell
+        ensures { result ≡ standing total template }
+    {
         Cell {
-            score: 0,
-            marked: false,
-            fresh: false,
-            template: 0,
-            stop: 0,
+            total,
+            template,
+            ..Cell::blank()
         }
     }
 }
