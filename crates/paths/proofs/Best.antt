@@ -3,7 +3,9 @@ use Rattle.std.proofs.Common.{◌≡◌, ℕ, zero, suc, ◌-◌, ◌<◌, ◌�
 use Rattle.std.proofs.lemmas.Int.{ints, by_lt_z}
 use Rattle.std.proofs.lemmas.Bool.{leb-true, le-leb, cases_lt, cases_order, cond-true, cond-false, cond_both}
 use Rattle.std.specs.Int.{int_max}
-use Rattle.paths.specs.Combining.{Rule, totals, greater, same_total}
+use Rattle.std.specs.Option.{option_eq}
+use Rattle.std.specs.Ordering.{int_eq}
+use Rattle.paths.specs.Combining.{Rule, totals, greater}
 use Rattle.paths.specs.Paths.{Positive, end_of, Leads, total, Earlier, FirstBest, OneFirstBest}
 use Rattle.paths.specs.Sweep.{joined, changed, brings, place_value, place_last}
 use Rattle.paths.specs.Totals.{last_node, follow_within, follow, TellsBest}
@@ -29,8 +31,8 @@ greater_right (Some x) (Some w) y e = (int_max x w, refl, let same : y ≡ w = c
 
 -- the greater of two totals is the first of them, or the second, which is then above the first
 greater_picks : (a b : Option ℤ) (z : ℤ) → greater a b ≡ Some z
-    → ((a ≡ Some z) × (same_total (greater a b) a ≡ true))
-    ⊎ ((b ≡ Some z) × (same_total (greater a b) a ≡ false) × ((y : ℤ) → a ≡ Some y → y <ℤ z))
+    → ((a ≡ Some z) × (option_eq int_eq (greater a b) a ≡ true))
+    ⊎ ((b ≡ Some z) × (option_eq int_eq (greater a b) a ≡ false) × ((y : ℤ) → a ≡ Some y → y <ℤ z))
 greater_picks None None z e = absurd (some_not_none None z e refl)
 greater_picks None (Some w) z e = inr (e, refl, λ y f. absurd (some_not_none None y f refl))
 greater_picks (Some x) None z e = inl (e, grind (arith, ints))
@@ -82,7 +84,7 @@ module _ (f : ℕ → Option ℤ) where
   changed_lowest zero z e = absurd (some_not_none None z e refl)
   changed_lowest (suc n) z e =
       ⊎_elim
-      (λ (a : (joined totals f n ≡ Some z) × (same_total (joined totals f (suc n)) (joined totals f n) ≡ true)).
+      (λ (a : (joined totals f n ≡ Some z) × (option_eq int_eq (joined totals f (suc n)) (joined totals f n) ≡ true)).
       let r = changed_lowest n z a.0 in
       let is : changed totals f (suc n) ≡ changed totals f n = cond-true _ (changed totals f n) n a.1 in
       rw is (omega (arith, r.0), r.1, r.2))

@@ -4,7 +4,9 @@ use Rattle.std.proofs.lemmas.Int.{ints}
 use Rattle.std.proofs.lemmas.Bool.{leb-true, cases_Bool, cond_both, cond-false}
 use Rattle.std.specs.Int.{saturate_to_bits}
 use Rattle.scorer.specs.Meaning.{ScoreWithin}
-use Rattle.paths.specs.Combining.{added, greater, same_total, totals_by, totals, capped_totals}
+use Rattle.std.specs.Option.{option_eq}
+use Rattle.std.specs.Ordering.{int_eq}
+use Rattle.paths.specs.Combining.{added, greater, totals_by, totals, capped_totals}
 use Rattle.paths.specs.Paths.{Positive}
 use Rattle.paths.specs.Sweep.{joined, changed, brings, place_value, place_last}
 use Rattle.paths.specs.Totals.{Limited, TotalWithin}
@@ -71,7 +73,7 @@ changed_alike cap other f (suc n) =
     let a = joined_alike cap other f (suc n) in
     let b = joined_alike cap other f n in
     let c = changed_alike cap other f n in
-    λ i. cond (same_total (a i) (b i)) (c i) n
+    λ i. cond (option_eq int_eq (a i) (b i)) (c i) n
 
 -- a score more at a place of a line is far inside the range
 added_alike : (q : ℕ) → q < 2048 → (v : Option ℤ) (s : ℤ) → TotalWithin q v → ScoreWithin s → added (saturate_to_bits 63) v s ≡ added (λ z. z) v s

@@ -2,8 +2,12 @@
 use Rattle.std.proofs.Common.{◌≡◌, ℕ, Bool, true, false, ◌||◌, ℤ, pos, negsuc, ◌+ℤ◌, ◌≤ℤ◌, Some, None, Decides, Option, sym, refl, ap, ◌∙◌, arith}
 use Rattle.std.proofs.lemmas.Int.{ints, by_lt_z}
 use Rattle.std.proofs.lemmas.Bool.{false≢true}
+use Rattle.std.proofs.lemmas.Bool.Decides.{Decides-int_eq}
+use Rattle.std.specs.Cmp.{booleans_Decides}
 use Rattle.std.specs.Int.{int_max, saturate_to_bits}
-use Rattle.paths.specs.Combining.{RuleLawful, same_answer, reach, added, greater, same_score, same_total, totals_by, totals, capped_totals}
+use Rattle.std.specs.Option.{option_eq}
+use Rattle.std.specs.Ordering.{int_eq}
+use Rattle.paths.specs.Combining.{RuleLawful, reach, added, greater, totals_by, totals, capped_totals}
 
 -- yes from any of three: the grouping does not matter
 or_associative : (a b c : Bool) → ((a || b) || c) ≡ (a || (b || c))
@@ -22,12 +26,6 @@ or_neutral : (a : Bool) → (a || false) ≡ a
 or_neutral true = refl
 or_neutral false = refl
 
--- the test of two answers tells whether they are the same
-same_answer_tells : (a b : Bool) → Decides (same_answer a b) (a ≡ b)
-same_answer_tells true b = (sym, sym)
-same_answer_tells false true = (λ e. e, λ e. e)
-same_answer_tells false false = (λ e. refl, λ e. refl)
-
 -- whether a path comes to a place keeps the laws
 pub reach_lawful : RuleLawful Bool reach
 reach_lawful = record {
@@ -36,7 +34,7 @@ reach_lawful = record {
   neutral = or_neutral;
   spreads = λ a b s. refl;
   none_stays = λ s. refl;
-  same_tells = same_answer_tells;
+  same_tells = booleans_Decides;
 }
 
 -- the greatest of three sums: the grouping does not matter
@@ -86,16 +84,12 @@ greater_added cap rising None b s = refl
 greater_added cap rising (Some a) None s = refl
 greater_added cap rising (Some a) (Some b) s = ap Some (max_added cap rising a b s)
 
--- the test of two sums tells whether they are the same
-pub same_score_tells : (a b : ℤ) → Decides (same_score a b) (a ≡ b)
-same_score_tells a b = (λ e. grind (arith, ints), λ e. grind (arith, ints))
-
 -- the test of two totals tells whether they are the same
-same_total_tells : (a b : Option ℤ) → Decides (same_total a b) (a ≡ b)
+same_total_tells : (a b : Option ℤ) → Decides (option_eq int_eq a b) (a ≡ b)
 same_total_tells None None = (λ e. refl, λ e. refl)
 same_total_tells None (Some b) = (λ e. absurd (false≢true e), λ e. cc)
 same_total_tells (Some a) None = (λ e. absurd (false≢true e), λ e. cc)
-same_total_tells (Some a) (Some b) = (λ e. ap Some ((same_score_tells a b).0 e), λ e. (same_score_tells a b).1 (cc))
+same_total_tells (Some a) (Some b) = (λ e. ap Some ((Decides-int_eq a b).0 e), λ e. (Decides-int_eq a b).1 (cc))
 
 -- totals keep the laws, however their sums are held to a range, so long as a greater sum stays no less
 pub totals_by_lawful : (cap : ℤ → ℤ) → ((a b : ℤ) → a ≤ℤ b → cap a ≤ℤ cap b) → RuleLawful (Option ℤ) (totals_by cap)

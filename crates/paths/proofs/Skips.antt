@@ -2,7 +2,9 @@
 use Rattle.std.proofs.Common.{◌≡◌, ℕ, zero, suc, ◌+◌, ◌-◌, ◌<◌, ◌≤◌, min, Bool, true, false, cond, not, ◌||◌, leb, List, length, get_or, ℤ, pos, is_some, Some, None, Option, sym, refl, ap, ◌∙◌, ⊎_elim, arith}
 use Rattle.std.proofs.lemmas.Int.{ints}
 use Rattle.std.proofs.lemmas.Bool.{leb-true, cases_Bool, or_parts, not-false, false≢true, true≢false}
-use Rattle.paths.specs.Combining.{totals, added, greater, same_total}
+use Rattle.std.specs.Option.{option_eq}
+use Rattle.std.specs.Ordering.{int_eq}
+use Rattle.paths.specs.Combining.{totals, added, greater}
 use Rattle.paths.specs.Increments.{differ, difference, one_difference, longest, is_worked, moved, Owed}
 use Rattle.paths.specs.Paths.{Positive}
 use Rattle.paths.specs.Sweep.{joined, changed, brings, work, place_value, place_last}
@@ -63,7 +65,7 @@ greater_moved None b g = refl
 greater_moved (Some a) None g = refl
 greater_moved (Some a) (Some b) g = ap Some (grind (arith, ints))
 
-same_moved : (a b : Option ℤ) (g : ℤ) → same_total (moved a g) (moved b g) ≡ same_total a b
+same_moved : (a b : Option ℤ) (g : ℤ) → option_eq int_eq (moved a g) (moved b g) ≡ option_eq int_eq a b
 same_moved None None g = refl
 same_moved None (Some b) g = refl
 same_moved (Some a) None g = refl
@@ -90,8 +92,8 @@ module _ (f h : ℕ → Option ℤ) (g : ℤ) where
       let a = joined_moved (suc n) each in
       let b = joined_moved n (λ t lt. each t (omega arith)) in
       let c = changed_moved n (λ t lt. each t (omega arith)) in
-      let same : same_total (joined totals h (suc n)) (joined totals h n) ≡ same_total (joined totals f (suc n)) (joined totals f n) =
-      (λ i. same_total (a i) (b i)) ∙ same_moved (joined totals f (suc n)) (joined totals f n) g in
+      let same : option_eq int_eq (joined totals h (suc n)) (joined totals h n) ≡ option_eq int_eq (joined totals f (suc n)) (joined totals f n) =
+      (λ i. option_eq int_eq (a i) (b i)) ∙ same_moved (joined totals f (suc n)) (joined totals f n) g in
       λ i. cond (same i) (c i) n
 
 -- of two totals that are there alike, the new one is the old one moved by their difference
