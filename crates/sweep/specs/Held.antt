@@ -1,8 +1,7 @@
--- How the total of a place's cell holds yes or no, and that the equality of what is held is that of its rule. Assumes nothing.
+-- How the total of a place's cell holds yes or no. Assumes nothing.
 use Rattle.std.specs.Prelude.{◌≡◌, Bool, true, false, cond, ℤ, pos, is_some, Some, None, Option, refl}
-use Rattle.paths.specs.Combining.{same_answer, same_total}
 
--- yes is held by a total
+-- yes is held by a total of 0, no by none
 abbrev pub stored_answer : Bool → Option ℤ
 stored_answer b = cond b (Some (pos 0)) None
 

@@ -2,7 +2,7 @@
 ghost use Rattle.std.specs.Prelude.{◌≡◌, ℤ, Option, is_some, refl};
 ghost use Rattle.paths.specs.Combining.{Rule, RuleLawful, reach, capped_totals};
 ghost use Rattle.paths.proofs.Rules.{reach_lawful, capped_lawful};
-ghost use Rattle.sweep.specs.Held.{stored_answer, answer_kept, same_answers, same_totals};
+ghost use Rattle.sweep.specs.Held.{stored_answer, answer_kept};
 
 // A start, a none, an extending by a score and a joining, with their laws; and how the total of a place's cell holds a value.
 pub trait Combining: Copy + PartialEq {
@@ -55,7 +55,7 @@ impl Combining for bool {
 
     ghost kept = { answer_kept };
 
-    ghost same = { same_answers };
+    ghost same = { λ a b. refl };
 
     fn start() -> bool {
         true
@@ -94,7 +94,7 @@ impl Combining for Option<i64> {
 
     ghost kept = { λ total. refl };
 
-    ghost same = { same_totals };
+    ghost same = { λ a b. refl };
 
     fn start() -> Option<i64> {
         Some(0)
