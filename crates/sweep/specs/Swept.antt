@@ -6,16 +6,26 @@ use Rattle.cells.specs.Line.{widths}
 use Rattle.cells.specs.declared.cell.Cell.{Cell}
 use Rattle.cells.specs.declared.line.Line.{Line}
 use Rattle.paths.specs.Combining.{Rule}
-use Rattle.paths.specs.Sweep.{work, work_last, place_value, place_last, Joins}
+use Rattle.paths.specs.Sweep.{brings, work, work_last, place_value, place_last, Joins}
 
 -- the value that the cell of each place holds
 abbrev pub values_in : {X : Type 0} → (Option ℤ → X) → Line → List Cell → ℕ → X
 values_in held l cells p = held (place_cell l cells p).total
 
+-- what a template brings to a place, what working the place gives it, and the last template that changed that
+abbrev pub brought : {X : Type 0} → Rule X → (Option ℤ → X) → Line → List Cell → ℕ → ℕ → X
+brought r held l cells p t = brings r (widths l) (score_in l cells) (values_in held l cells) p t
+
+abbrev pub worked : {X : Type 0} → Rule X → (Option ℤ → X) → Line → List Cell → ℕ → X
+worked r held l cells p = work r (widths l) (score_in l cells) (values_in held l cells) p
+
+abbrev pub worked_last : {X : Type 0} → Rule X → (Option ℤ → X) → Line → List Cell → ℕ → ℕ
+worked_last r held l cells p = work_last r (widths l) (score_in l cells) (values_in held l cells) p
+
 -- the cells after one place was worked
 abbrev pub worked_cells : {X : Type 0} → Rule X → (Option ℤ → X) → (X → Option ℤ) → Line → List Cell → ℕ → List Cell
 worked_cells r held stored l cells p =
-    with_place l cells p (standing (stored (work r (widths l) (score_in l cells) (values_in held l cells) p)) (work_last r (widths l) (score_in l cells) (values_in held l cells) p))
+    with_place l cells p (standing (stored (worked r held l cells p)) (worked_last r held l cells p))
 
 -- the cell of a place after a sweep
 abbrev pub swept_cell : {X : Type 0} → Rule X → (X → Option ℤ) → List ℕ → (ℕ → ℕ → ℤ) → ℕ → Cell

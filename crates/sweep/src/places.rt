@@ -1,24 +1,44 @@
 // Working a place: what every template brings to it is joined.
 ghost use Rattle.std.specs.Prelude.{◌≡◌, if◌then◌else◌};
 ghost use Rattle.cells.specs.Lattice.{relaid};
-ghost use Rattle.cells.specs.Layout.{score_in};
-ghost use Rattle.cells.specs.Line.{widths};
-ghost use Rattle.paths.specs.Sweep.{brings, work, work_last};
-ghost use Rattle.sweep.specs.Swept.{values_in, worked_cells};
+ghost use Rattle.sweep.specs.Swept.{brought, worked, worked_last, worked_cells};
 
 use super::Combining;
 use cells::{Cell, Lattice};
 
-// The join so far, and the last template that changed it.
+// The join so far, and the last template that changed it, 0 where none did.
 #[derive(Clone, Copy)]
 struct Joined<C> {
     value: C,
     last: usize,
 }
 
+impl<C: Combining> Joined<C> {
+    // The join of nothing.
+    fn nothing() -> Joined<C>
+        ensures value { result.value ≡ C.Combining.rule.none }
+        ensures last { result.last ≡ 0 }
+    {
+        Joined {
+            value: C::none(),
+            last: 0,
+        }
+    }
+
+    // The join with what one more template brings.
+    fn with(self, brought: C, t: usize) -> Joined<C>
+        ensures value { result.value ≡ C.Combining.rule.join self.value brought }
+        ensures last { result.last ≡ (if C.Combining.rule.same (C.Combining.rule.join self.value brought) self.value then self.last else t) }
+    {
+        let value = self.value.join(brought);
+        let last = if value == self.value { self.last } else { t };
+        Joined { value, last }
+    }
+}
+
 // What a template brings to a place.
 fn brought<C: Combining>(lattice: &Lattice, p: usize, t: usize) -> C
-    ensures { result ≡ brings C.Combining.rule (widths lattice.now.line.now) (score_in lattice.now.line.now lattice.now.cells.now) (values_in C.Combining.held lattice.now.line.now lattice.now.cells.now) p t }
+    ensures { result ≡ brought C.Combining.rule C.Combining.held lattice.now.line.now lattice.now.cells.now p t }
 {
     let Some(x) = p.checked_sub(lattice.line.columns(t)) else {
         return C::none();
@@ -26,29 +46,14 @@ fn brought<C: Combining>(lattice: &Lattice, p: usize, t: usize) -> C
     C::load(lattice.place(x).total).extend(lattice.node(x, t).score)
 }
 
-// The join with what one more template brings.
-fn join_in<C: Combining>(sofar: Joined<C>, brought: C, t: usize) -> Joined<C>
-    ensures value { result.value ≡ C.Combining.rule.join sofar.value brought }
-    ensures last { result.last ≡ (if C.Combining.rule.same (C.Combining.rule.join sofar.value brought) sofar.value then sofar.last else t) }
-{
-    let value = sofar.value.join(brought);
-    let last = if value == sofar.value { sofar.last } else { t };
-    Joined { value, last }
-}
-
 // The join of what all templates bring to a place.
 fn join_all<C: Combining>(lattice: &Lattice, p: usize) -> Joined<C>
-    ensures value { result.value ≡ work C.Combining.rule (widths lattice.now.line.now) (score_in lattice.now.line.now lattice.now.cells.now) (values_in C.Combining.held lattice.now.line.now lattice.now.cells.now) p }
-    ensures last { result.last ≡ work_last C.Combining.rule (widths lattice.now.line.now) (score_in lattice.now.line.now lattice.now.cells.now) (values_in C.Combining.held lattice.now.line.now lattice.now.cells.now) p }
+    ensures value { result.value ≡ worked C.Combining.rule C.Combining.held lattice.now.line.now lattice.now.cells.now p }
+    ensures last { result.last ≡ worked_last C.Combining.rule C.Combining.held lattice.now.line.now lattice.now.cells.now p }
 {
-    let nothing = Joined {
-        value: C::none(),
-        last: 0,
-    };
-    (0..lattice.line.count()).fold(
-        nothing,
-        |sofar, t| join_in(sofar, brought(lattice, p, t), t),
-    )
+    (0..lattice.line.count()).fold(Joined::nothing(), |sofar, t| {
+        sofar.with(brought(lattice, p, t), t)
+    })
 }
 
 // Works a place: its cell gets the join of what all templates bring, and the last template that changed it.
