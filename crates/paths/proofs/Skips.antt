@@ -1,13 +1,13 @@
 -- A place that the incremental sweep does not work has its old total moved by a difference, and its old last template. Assumes nothing.
-use Rattle.std.proofs.Common.{◌≡◌, ℕ, zero, suc, ◌+◌, ◌-◌, ◌<◌, ◌≤◌, min, Bool, true, false, cond, not, ◌||◌, leb, List, length, get_or, ℤ, pos, is_some, Some, None, Option, sym, refl, ap, ◌∙◌, ⊎_elim, arith}
+use Rattle.std.proofs.Common.{◌≡◌, ℕ, zero, suc, ◌+◌, ◌-◌, ◌<◌, ◌≤◌, min, Bool, false, not, ◌||◌, List, length, get_or, ℤ, pos, is_some, Some, None, Option, sym, refl, ap, ◌∙◌, arith}
 use Rattle.std.proofs.lemmas.Int.{ints}
-use Rattle.std.proofs.lemmas.Bool.{leb-true, cases_Bool, or_parts, not-false, false≢true, true≢false}
+use Rattle.std.proofs.lemmas.Bool.{or_parts, not-false}
 use Rattle.std.specs.Option.{option_eq}
 use Rattle.std.specs.Ordering.{int_eq}
 use Rattle.paths.specs.Combining.{totals, added, greater}
 use Rattle.paths.specs.Increments.{differ, difference, one_difference, longest, is_worked, moved, Owed}
 use Rattle.paths.specs.Paths.{Positive}
-use Rattle.paths.specs.Sweep.{joined, changed, brings, work, place_value, place_last}
+use Rattle.paths.specs.Sweep.{work, place_value, place_last}
 use Rattle.paths.proofs.Basics.{value_start, value_works, values_related}
 use Rattle.paths.proofs.Related.{work_related, work_last_related}
 use Rattle.paths.proofs.Runs.{one_difference_tells, le_longest}
@@ -49,8 +49,8 @@ added_moved (Some a) g s = ap Some (omega (arith, ints))
 -- of two totals that are there alike, the new one is the old one moved by their difference
 differ_moves : (a b : Option ℤ) (before : ℤ) → is_some a ≡ is_some b → b ≡ moved a (differ a b before)
 differ_moves None None before alike = refl
-differ_moves None (Some b) before alike = absurd (false≢true alike)
-differ_moves (Some a) None before alike = absurd (true≢false alike)
+differ_moves None (Some b) before alike = cc
+differ_moves (Some a) None before alike = cc
 differ_moves (Some a) (Some b) before alike = ap Some (omega (arith, ints))
 
 module _ (ds : List ℕ) (positive : Positive ds) (w : ℕ) (score : ℕ → ℕ → ℤ) (fresh : ℕ → Bool) (old : ℕ → Option ℤ) (last : ℕ → ℕ)
