@@ -6,5 +6,5 @@ abbrev pub blank : Cell
 blank = record { score = pos 0; marked = false; total = None; fresh = false; template = 0; stop = 0 }
 
 -- the cell of a place with a total, or none, and a last template
-abbrev pub standing : Option ℤ → ℕ → Cell
-standing total template = record blank { total = total; template = template }
+abbrev pub of_place : Option ℤ → ℕ → Cell
+of_place total template = record blank { total = total; template = template }

@@ -1,6 +1,6 @@
 // One cell of the memory that a search is lent.
 ghost use Rattle.std.specs.Prelude.{◌≡◌};
-ghost use Rattle.cells.specs.Blank.{blank, standing};
+ghost use Rattle.cells.specs.Blank.{blank, of_place};
 
 // A node's cell holds its standing score and its mark; a place's cell its total where a path leads there, its last
 // template, whether a newly marked node ends there, and a stop of the path.
@@ -23,8 +23,8 @@ impl Cell {
     }
 
     // The cell of a place with this total and last template, and nothing else.
-    pub fn standing(total: Option<i64>, template: usize) -> Cell
-        ensures { result ≡ standing total template }
+    pub fn of_place(total: Option<i64>, template: usize) -> Cell
+        ensures { result ≡ of_place total template }
     {
         Cell {
             total,

@@ -12,6 +12,7 @@ pub struct Lattice<'a> {
     cells: &'a mut [Cell],
 }
 
+// A node and a place keep two methods each, alike but for the index: one over an enum of the two is no shorter.
 impl<'a> Lattice<'a> {
     // The cells laid out for the line.
     pub fn new(line: &'a Line, cells: &'a mut [Cell]) -> Lattice<'a>
@@ -67,6 +68,7 @@ fn read(cells: &[Cell], at: Option<usize>) -> Cell
 }
 
 // Writes the cell at an index; where there is none nothing is written.
+// By `cells[i]`: the proof of what a write through `get_mut` leaves did not close.
 #[tactic(auto, using(std::proofs::lemmas::List::set_past), unfolding(crate::specs::Layout::with_cell))]
 fn write(cells: &mut [Cell], at: Option<usize>, cell: Cell)
     ensures { cells.new ≡ with_cell cells.old at cell }

@@ -3,7 +3,7 @@ use Rattle.std.proofs.Common.{◌≡◌, ℕ, zero, suc, ◌+◌, ◌<◌, ◌�
 use mathlib.Core.Path.{fun_ext}
 use Rattle.std.proofs.lemmas.Bool.{cases_lt}
 use Rattle.cells.proofs.Views.{length_with_cell, widths_positive, place_same, place_other, node_past_place}
-use Rattle.cells.specs.Blank.{standing}
+use Rattle.cells.specs.Blank.{of_place}
 use Rattle.cells.specs.Layout.{needed, place_index, place_cell, node_cell, score_in, with_place}
 use Rattle.cells.specs.Line.{widths}
 use Rattle.cells.specs.declared.cell.Cell.{Cell}
@@ -75,7 +75,7 @@ module _ {X : Type 0} (r : Rule X) (stored : X → Option ℤ) (l : Line) (cells
       swept_suc : (p : ℕ) → p ≤ l.width → swept_on r held stored l (swept_to r stored l cells p) p ≡ swept_to r stored l cells (suc p)
       unfolding swept_to
       swept_suc zero le = refl
-      swept_suc (suc p) le = λ i. with_place l (swept_to r stored l cells (suc p)) (suc p) (standing (stored (next_value p le i)) (next_last p le i))
+      swept_suc (suc p) le = λ i. with_place l (swept_to r stored l cells (suc p)) (suc p) (of_place (stored (next_value p le i)) (next_last p le i))
 
       pub swept_next : (p : ℕ) → p ≤ l.width → swept_on r held stored l (swept_to r stored l cells p) p ≡ swept_to r stored l cells (p + 1)
       swept_next p le = swept_suc p le ∙ ap (swept_to r stored l cells) (sym (add-one p))

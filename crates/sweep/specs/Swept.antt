@@ -1,6 +1,6 @@
 -- The cells after a sweep. Assumes nothing.
 use Rattle.std.specs.Prelude.{ℕ, zero, suc, ◌+◌, ◌≤◌, List, ℤ, Option}
-use Rattle.cells.specs.Blank.{standing}
+use Rattle.cells.specs.Blank.{of_place}
 use Rattle.cells.specs.Layout.{with_place, place_cell, score_in}
 use Rattle.cells.specs.Line.{widths}
 use Rattle.cells.specs.declared.cell.Cell.{Cell}
@@ -25,13 +25,13 @@ worked_last r held l cells p = work_last r (widths l) (score_in l cells) (values
 -- the cells after one place was worked
 abbrev pub worked_cells : {X : Type 0} → Rule X → (Option ℤ → X) → (X → Option ℤ) → Line → List Cell → ℕ → List Cell
 worked_cells r held stored l cells p =
-    with_place l cells p (standing (stored (worked r held l cells p)) (worked_last r held l cells p))
+    with_place l cells p (of_place (stored (worked r held l cells p)) (worked_last r held l cells p))
 
 -- the cell of a place after a sweep
 abbrev pub swept_cell : {X : Type 0} → Rule X → (X → Option ℤ) → List ℕ → (ℕ → ℕ → ℤ) → ℕ → Cell
-swept_cell r stored ds score zero = standing (stored r.start) 0
+swept_cell r stored ds score zero = of_place (stored r.start) 0
 swept_cell r stored ds score (suc p) =
-    standing (stored (place_value r ds score (suc p))) (place_last r ds score (suc p))
+    of_place (stored (place_value r ds score (suc p))) (place_last r ds score (suc p))
 
 -- the cells after a sweep of the first n places, and of all
 unfoldable pub swept_to : {X : Type 0} → Rule X → (X → Option ℤ) → Line → List Cell → ℕ → List Cell
@@ -44,7 +44,7 @@ swept r stored l cells = swept_to r stored l cells (l.width + 1)
 
 -- the cells after the next place was swept: place 0 gets the start, and any other is worked
 abbrev pub swept_on : {X : Type 0} → Rule X → (Option ℤ → X) → (X → Option ℤ) → Line → List Cell → ℕ → List Cell
-swept_on r held stored l cells zero = with_place l cells 0 (standing (stored r.start) 0)
+swept_on r held stored l cells zero = with_place l cells 0 (of_place (stored r.start) 0)
 swept_on r held stored l cells (suc p) = worked_cells r held stored l cells (suc p)
 
 -- a sweep gives each place the join over all paths that lead there

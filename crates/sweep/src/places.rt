@@ -6,7 +6,8 @@ ghost use Rattle.sweep.specs.Swept.{brought, worked, worked_last, worked_cells};
 use super::Combining;
 use cells::{Cell, Lattice};
 
-// The join so far, and the last template that changed it, 0 where none did.
+// The join so far, and the last template that changed it.
+// That is 0 where none did, and no Option, since it is 0 that the rule of the sweep gives the cell there.
 #[derive(Clone, Copy)]
 struct Joined<C> {
     value: C,
@@ -61,5 +62,5 @@ pub fn work_place<C: Combining>(lattice: &mut Lattice, p: usize)
     ensures { lattice.new ≡ relaid lattice.old (worked_cells C.Combining.rule C.Combining.held C.Combining.stored lattice.old.line.now lattice.old.cells.now p) }
 {
     let joined = join_all::<C>(lattice, p);
-    lattice.set_place(p, Cell::standing(joined.value.store(), joined.last));
+    lattice.set_place(p, Cell::of_place(joined.value.store(), joined.last));
 }

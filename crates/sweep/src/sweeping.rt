@@ -23,7 +23,7 @@ fn sweep_place<C: Combining>(lattice: &mut Lattice, p: usize)
     ensures { lattice.new ≡ relaid lattice.old (swept_on C.Combining.rule C.Combining.held C.Combining.stored lattice.old.line.now lattice.old.cells.now p) }
 {
     if p == 0 {
-        lattice.set_place(0, Cell::standing(C::start().store(), 0));
+        lattice.set_place(0, Cell::of_place(C::start().store(), 0));
     } else {
         work_place::<C>(lattice, p);
     }

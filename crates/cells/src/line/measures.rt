@@ -48,7 +48,7 @@ impl Line {
         self.setwidths().get(t).copied()
     }
 
-    // The same, and 0 where there is no such template, as a list of setwidths has it past its end.
+    // The same, and 0 where there is no such template: paths are defined by a list that has 0 past its end.
     pub fn columns(&self, t: usize) -> usize
         ensures { result ≡ slice_index (widths self.now) t }
     {
