@@ -2,8 +2,9 @@
 use Rattle.std.proofs.Common.{◌≡◌, ℕ, zero, suc, ◌+◌, ◌<◌, ◌≤◌, List, length, get_or, ℤ, Option, sym, refl, ap, ◌∙◌, ⊎_elim, add-one, arith}
 use mathlib.Core.Path.{fun_ext}
 use Rattle.std.proofs.lemmas.Bool.{cases_lt}
+use Rattle.cells.proofs.Places.{total_of_place}
 use Rattle.cells.proofs.Views.{length_with_cell, widths_positive, place_same, place_other, node_past_place}
-use Rattle.cells.specs.Blank.{of_place}
+use Rattle.cells.specs.Blank.{of_place, total_in}
 use Rattle.cells.specs.Layout.{needed, place_index, place_cell, node_cell, score_in, with_place}
 use Rattle.cells.specs.Line.{widths}
 use Rattle.cells.specs.declared.cell.Cell.{Cell}
@@ -48,12 +49,12 @@ module _ {X : Type 0} (r : Rule X) (stored : X → Option ℤ) (l : Line) (cells
         (cases_lt q n)
 
     module _ (held : Option ℤ → X) (kept : (v : X) → held (stored v) ≡ v) where
-      swept_cell_held : (q : ℕ) → held (swept_cell r stored (widths l) (score_in l cells) q).total ≡ place_value r (widths l) (score_in l cells) q
-      swept_cell_held zero = kept r.start ∙ sym (value_start r (widths l) (widths_positive l) (score_in l cells))
-      swept_cell_held (suc q) = kept _
+      swept_cell_held : (q : ℕ) → held (total_in (swept_cell r stored (widths l) (score_in l cells) q)) ≡ place_value r (widths l) (score_in l cells) q
+      swept_cell_held zero = ap held (total_of_place (stored r.start) 0) ∙ kept r.start ∙ sym (value_start r (widths l) (widths_positive l) (score_in l cells))
+      swept_cell_held (suc q) = ap held (total_of_place _ _) ∙ kept _
 
       pub value_swept : (n q : ℕ) → q < n → n ≤ l.width + 1 → values_in held l (swept_to r stored l cells n) q ≡ place_value r (widths l) (score_in l cells) q
-      value_swept n q lt le = ap (λ c. held c.total) (place_swept n q lt le) ∙ swept_cell_held q
+      value_swept n q lt le = ap (λ c. held (total_in c)) (place_swept n q lt le) ∙ swept_cell_held q
 
       -- working the next place gives what the sweep gives it
       module _ (p : ℕ) (le : suc p ≤ l.width) where

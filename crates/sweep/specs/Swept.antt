@@ -1,6 +1,6 @@
 -- The cells after a sweep. Assumes nothing.
 use Rattle.std.specs.Prelude.{ℕ, zero, suc, ◌+◌, ◌≤◌, List, ℤ, Option}
-use Rattle.cells.specs.Blank.{of_place}
+use Rattle.cells.specs.Blank.{of_place, total_in}
 use Rattle.cells.specs.Layout.{with_place, place_cell, score_in}
 use Rattle.cells.specs.Line.{widths}
 use Rattle.cells.specs.declared.cell.Cell.{Cell}
@@ -10,7 +10,7 @@ use Rattle.paths.specs.Sweep.{brings, work, work_last, place_value, place_last, 
 
 -- the value that the cell of each place holds
 abbrev pub values_in : {X : Type 0} → (Option ℤ → X) → Line → List Cell → ℕ → X
-values_in held l cells p = held (place_cell l cells p).total
+values_in held l cells p = held (total_in (place_cell l cells p))
 
 -- what a template brings to a place, what working the place gives it, and the last template that changed that
 abbrev pub brought : {X : Type 0} → Rule X → (Option ℤ → X) → Line → List Cell → ℕ → ℕ → X

@@ -44,7 +44,7 @@ fn brought<C: Combining>(lattice: &Lattice, p: usize, t: usize) -> C
     let Some(x) = p.checked_sub(lattice.line.columns(t)) else {
         return C::none();
     };
-    C::load(lattice.place(x).total).extend(lattice.node(x, t).score)
+    C::load(lattice.place(x).total()).extend(lattice.node(x, t).score)
 }
 
 // The join of what all templates bring to a place.
