@@ -28,8 +28,10 @@ impl Line {
     pub(crate) fn node_index(&self, x: usize, t: usize) -> Option<usize>
         ensures { result ≡ node_index self.now x t }
     {
-        let last = self.width().checked_sub(self.setwidth(t)?)?;
-        if x > last {
+        let setwidth = self.setwidth(t)?;
+        let width = self.width();
+        // By comparing, since a sweep takes half as long again or more with `checked_sub` here.
+        if x > width || setwidth > width - x {
             return None;
         }
         Some(self.cell_index(x, t))
