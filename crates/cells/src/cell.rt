@@ -4,7 +4,7 @@ ghost use Rattle.cells.specs.Blank.{blank, total_in, of_place};
 
 // A node's cell holds its standing score and its mark; a place's cell its total, whether it is reached, its last
 // template, whether a newly marked node ends there, and a stop of the path.
-// A score beside a flag, and no Option: a tag of its own makes a cell of 48 bytes of 32, and a sweep takes twice to four times as long.
+// A score beside a flag, which `total` reads as an Option: a tag of its own makes a cell 48 bytes, not 32, and a sweep half as long again.
 #[derive(Clone, Copy, Default)]
 pub struct Cell {
     pub score: i64,

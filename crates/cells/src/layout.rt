@@ -30,7 +30,7 @@ impl Line {
     {
         let setwidth = self.setwidth(t)?;
         let width = self.width();
-        // By comparing, since a sweep takes half as long again or more with `checked_sub` here.
+        // By comparing: with `checked_sub` here a sweep takes an eighth as long again.
         if x > width || setwidth > width - x {
             return None;
         }

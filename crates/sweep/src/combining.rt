@@ -32,7 +32,7 @@ pub trait Combining: Copy + PartialEq {
     fn join(self, other: Self) -> Self
         ensures { result ≡ rule.join self other };
 
-    // The value that a place's total holds.
+    // The value that a place's total holds. Not by From, since neither bool nor Option is this crate's to convert.
     fn load(total: Option<i64>) -> Self
         ensures { result ≡ held total };
 
