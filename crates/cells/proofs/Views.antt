@@ -1,21 +1,17 @@
 -- What is read of cells after one was written: that one at its place, and all others as they were. Assumes nothing.
-use Rattle.std.proofs.Common.{◌≡◌, ℕ, ◌+◌, ◌*◌, ◌<◌, ◌≤◌, Bool, true, false, ltb, leb, List, length, get_or, Some, None, Ok, Option, sym, refl, ap, subst, ⊎_elim, arith}
+use Rattle.std.proofs.Common.{◌≡◌, ℕ, ◌+◌, ◌*◌, ◌<◌, ◌≤◌, ltb, leb, List, length, get_or, Some, None, Ok, Option, sym, refl, ap, subst, ⊎_elim, arith}
 use Rattle.std.proofs.lemmas.Nat.{mul-le}
-use Rattle.std.proofs.lemmas.List.{length-set, get_or-set_same, get_or-set_other, length-take-le, get_or-take}
+use Rattle.std.proofs.lemmas.List.{length-set, get_or-set_same, get_or-set_other}
 use Rattle.std.proofs.lemmas.Bool.{and_parts, and_from, ltb-true, leb-true, lt-ltb, le-leb, cases_order}
+use Rattle.std.proofs.lemmas.Option.{cond_some}
 use Rattle.octets.specs.Absent.{present}
 use Rattle.refusal.proofs.First.{exactly_ensure}
 use Rattle.refusal.specs.declared.Refusal.TheVariants.{CellsTooFew}
 use Rattle.cells.specs.Blank.{blank}
 use Rattle.cells.specs.Layout.{cell_index, needed, cells_verdict, on_line, is_place, node_index, place_index, cell_at, with_cell, node_cell, place_cell, with_node, with_place}
-use Rattle.cells.specs.Line.{widths}
+use Rattle.cells.specs.Line.{widths, templates}
 use Rattle.cells.specs.declared.cell.Cell.{Cell}
 use Rattle.cells.specs.declared.line.Line.{Line}
-
--- what is present is so by its test
-present_some : (b : Bool) (v i : ℕ) → present b v ≡ Some i → (b ≡ true) × (v ≡ i)
-present_some true v i e = (refl, cc)
-present_some false v i e = absurd (let z : ◌≡◌ {A = ℕ} 0 1 = cc in omega arith)
 
 -- a cell that is written is read there, and one elsewhere is as it was
 pub length_with_cell : (cells : List Cell) (at : Option ℕ) (c : Cell) → length (with_cell cells at c) ≡ length cells
@@ -34,16 +30,9 @@ cell_at_other cells None (Some j) c h = refl
 cell_at_other cells (Some i) None c h = refl
 cell_at_other cells (Some i) (Some j) c h = get_or-set_other cells i j c blank (λ e. h i refl (ap Some e))
 
--- the setwidths of a line are as many as its templates, and each takes up a column or more
-pub length_widths : (l : Line) → length (widths l) ≡ l.count
-unfolding widths
-length_widths l = length-take-le l.count l.setwidths (omega (arith, l.long, l.counted.1))
-
+-- each template of a line takes up a column or more
 pub widths_positive : (l : Line) (t : ℕ) → t < length (widths l) → 1 ≤ get_or (widths l) t 0
-unfolding widths
-widths_positive l t h =
-    let known : t < l.count = omega (arith, length_widths l) in
-    subst (λ d. 1 ≤ d) (sym (get_or-take l.count l.setwidths t 0 known)) (l.set t known).0
+widths_positive l t known = (l.set t known).0
 
 module _ (l : Line) where
   row_end : (t : ℕ) → (x : ℕ) → x ≤ l.width → cell_index l x t < (t + 1) * (l.width + 1)
@@ -53,34 +42,34 @@ module _ (l : Line) where
   rows_before t n h = mul-le (t + 1) (l.width + 1) n (l.width + 1) (omega arith) (omega arith)
 
   -- where a node lies, and where a place lies
-  node_lies : (x t i : ℕ) → node_index l x t ≡ Some i → (t < l.count) × (x ≤ l.width) × (cell_index l x t ≡ i)
+  node_lies : (x t i : ℕ) → node_index l x t ≡ Some i → (t < templates l) × (x ≤ l.width) × (cell_index l x t ≡ i)
   unfolding node_index
   node_lies x t i e =
-      let both = present_some (on_line l x t) (cell_index l x t) i e in
-      let parts = and_parts (ltb t l.count) (leb (x + get_or (widths l) t 0) l.width) both.0 in
-      (ltb-true t l.count parts.0, omega (arith, leb-true (x + get_or (widths l) t 0) l.width parts.1), both.1)
+      let both = cond_some (on_line l x t) (cell_index l x t) i e in
+      let parts = and_parts (ltb t (templates l)) (leb (x + get_or (widths l) t 0) l.width) both.0 in
+      (ltb-true t (templates l) parts.0, omega (arith, leb-true (x + get_or (widths l) t 0) l.width parts.1), both.1)
 
-  place_lies : (p i : ℕ) → place_index l p ≡ Some i → (p ≤ l.width) × (cell_index l p l.count ≡ i)
+  place_lies : (p i : ℕ) → place_index l p ≡ Some i → (p ≤ l.width) × (cell_index l p (templates l) ≡ i)
   unfolding place_index
   place_lies p i e =
-      let both = present_some (is_place l p) (cell_index l p l.count) i e in
+      let both = cond_some (is_place l p) (cell_index l p (templates l)) i e in
       (leb-true p l.width both.0, both.1)
 
-  place_there : (p : ℕ) → p ≤ l.width → place_index l p ≡ Some (cell_index l p l.count)
+  place_there : (p : ℕ) → p ≤ l.width → place_index l p ≡ Some (cell_index l p (templates l))
   unfolding place_index
-  place_there p h = ap (λ b. present b (cell_index l p l.count)) (le-leb p l.width h)
+  place_there p h = ap (λ b. present b (cell_index l p (templates l))) (le-leb p l.width h)
 
-  node_there : (x t : ℕ) → t < l.count → x + get_or (widths l) t 0 ≤ l.width → node_index l x t ≡ Some (cell_index l x t)
+  node_there : (x t : ℕ) → t < templates l → x + get_or (widths l) t 0 ≤ l.width → node_index l x t ≡ Some (cell_index l x t)
   unfolding node_index
   node_there x t known ends =
-      ap (λ b. present b (cell_index l x t)) (and_from (ltb t l.count) (leb (x + get_or (widths l) t 0) l.width) (lt-ltb t l.count known) (le-leb _ l.width ends))
+      ap (λ b. present b (cell_index l x t)) (and_from (ltb t (templates l)) (leb (x + get_or (widths l) t 0) l.width) (lt-ltb t (templates l) known) (le-leb _ l.width ends))
 
   -- a node and a place, two places, two nodes lie apart
   node_place_apart : (x t p i : ℕ) → node_index l x t ≡ Some i → place_index l p ≡ Some i → ⊥
   node_place_apart x t p i a b =
       let n = node_lies x t i a in
       let q = place_lies p i b in
-      omega (arith, row_end t x n.1, rows_before t l.count n.0, n.2, q.1)
+      omega (arith, row_end t x n.1, rows_before t (templates l) n.0, n.2, q.1)
 
   places_apart : (p q i : ℕ) → (p ≡ q → ⊥) → place_index l p ≡ Some i → place_index l q ≡ Some i → ⊥
   places_apart p q i ne a b = ne (omega (arith, (place_lies p i a).1, (place_lies q i b).1))
@@ -102,7 +91,7 @@ module _ (l : Line) where
     pub place_same : needed l ≤ length cells → (p : ℕ) → p ≤ l.width → place_cell l (with_place l cells p c) p ≡ c
     place_same enough p h =
         subst (λ at. cell_at (with_cell cells at c) at ≡ c) (sym (place_there p h))
-        (cell_at_same cells (cell_index l p l.count) c (omega arith))
+        (cell_at_same cells (cell_index l p (templates l)) c (omega arith))
 
     pub place_other : (p q : ℕ) → (p ≡ q → ⊥) → place_cell l (with_place l cells p c) q ≡ place_cell l cells q
     place_other p q ne = cell_at_other cells (place_index l p) (place_index l q) c (λ i. places_apart p q i ne)
@@ -114,10 +103,10 @@ module _ (l : Line) where
     pub place_past_node : (x t p : ℕ) → place_cell l (with_node l cells x t c) p ≡ place_cell l cells p
     place_past_node x t p = cell_at_other cells (node_index l x t) (place_index l p) c (λ i. node_place_apart x t p i)
 
-    pub node_same : needed l ≤ length cells → (x t : ℕ) → t < l.count → x + get_or (widths l) t 0 ≤ l.width → node_cell l (with_node l cells x t c) x t ≡ c
+    pub node_same : needed l ≤ length cells → (x t : ℕ) → t < templates l → x + get_or (widths l) t 0 ≤ l.width → node_cell l (with_node l cells x t c) x t ≡ c
     node_same enough x t known ends =
         subst (λ at. cell_at (with_cell cells at c) at ≡ c) (sym (node_there x t known ends))
-        (cell_at_same cells (cell_index l x t) c (omega (arith, row_end t x (omega arith), rows_before t l.count known)))
+        (cell_at_same cells (cell_index l x t) c (omega (arith, row_end t x (omega arith), rows_before t (templates l) known)))
 
     pub node_other : (x t y u : ℕ) → ((x ≡ y) × (t ≡ u) → ⊥) → node_cell l (with_node l cells x t c) y u ≡ node_cell l cells y u
     node_other x t y u ne = cell_at_other cells (node_index l x t) (node_index l y u) c (λ i. nodes_apart x t y u i ne)

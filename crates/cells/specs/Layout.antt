@@ -5,7 +5,7 @@ use Rattle.octets.specs.Absent.{present}
 use Rattle.refusal.specs.First.{Verdict, ensure}
 use Rattle.refusal.specs.declared.Refusal.TheVariants.{CellsTooFew}
 use Rattle.cells.specs.Blank.{blank}
-use Rattle.cells.specs.Line.{widths}
+use Rattle.cells.specs.Line.{widths, templates}
 use Rattle.cells.specs.declared.cell.Cell.{Cell}
 use Rattle.cells.specs.declared.line.Line.{Line}
 
@@ -15,14 +15,14 @@ cell_index l x t = t * (l.width + 1) + x
 
 -- how many cells a line needs
 abbrev pub needed : Line → ℕ
-needed l = (l.count + 1) * (l.width + 1)
+needed l = (templates l + 1) * (l.width + 1)
 
 abbrev pub cells_verdict : Line → ℕ → Verdict
 cells_verdict l cells = ensure (nat_le (needed l) cells) (CellsTooFew (needed l))
 
 -- column x and template t are a node: the template ends on the line
 abbrev pub on_line : Line → ℕ → ℕ → Bool
-on_line l x t = nat_lt t l.count && nat_le (x + slice_index (widths l) t) l.width
+on_line l x t = nat_lt t (templates l) && nat_le (x + slice_index (widths l) t) l.width
 
 abbrev pub is_place : Line → ℕ → Bool
 is_place l p = nat_le p l.width
@@ -32,7 +32,7 @@ unfoldable pub node_index : Line → ℕ → ℕ → Option ℕ
 node_index l x t = present (on_line l x t) (cell_index l x t)
 
 unfoldable pub place_index : Line → ℕ → Option ℕ
-place_index l p = present (is_place l p) (cell_index l p l.count)
+place_index l p = present (is_place l p) (cell_index l p (templates l))
 
 unfoldable pub cell_at : List Cell → Option ℕ → Cell
 cell_at cells None = blank

@@ -1,3 +1,4 @@
 pub mod Blank
-pub mod Line
+pub mod Lattice
 pub mod Layout
+pub mod Line

@@ -2,8 +2,10 @@
 #![tactic(auto)]
 
 mod cell;
+mod lattice;
 mod layout;
 mod line;
 
 pub use cell::Cell;
+pub use lattice::Lattice;
 pub use line::Line;

@@ -1,49 +1,22 @@
 -- What a sweep gives each place is its rule; a place rests on those before it alone. Assumes nothing.
-use Rattle.std.proofs.Common.{◌≡◌, ℕ, zero, suc, ◌+◌, ◌-◌, ◌<◌, ◌≤◌, cond, leb, List, length, get_or, ℤ, sym, refl, ◌∙◌, ⊎_elim, arith}
-use Rattle.std.proofs.lemmas.Bool.{leb-true, cases_Bool, cond-false}
+use Rattle.std.proofs.Common.{◌≡◌, ℕ, zero, suc, ◌+◌, ◌<◌, ◌≤◌, List, length, get_or, ℤ, sym, refl, ◌∙◌, subst, arith}
 use Rattle.paths.specs.Combining.{Rule}
 use Rattle.paths.specs.Paths.{Positive}
-use Rattle.paths.specs.Sweep.{joined, changed, brings, work, work_last, value_within, place_value, Swept}
+use Rattle.paths.specs.Sweep.{work, work_last, value_within, place_value, Swept}
+use Rattle.paths.proofs.Related.{by_places, work_related, work_last_related}
 
--- joins of the same values are the same, and so are the numbers that changed them
-module _ {X : Type 0} (r : Rule X) (f g : ℕ → X) where
-  pub joined_same : (n : ℕ) → ((t : ℕ) → t < n → f t ≡ g t) → joined r f n ≡ joined r g n
-  unfolding joined
-  joined_same zero h = refl
-  joined_same (suc n) h =
-      let a = joined_same n (λ t lt. h t (omega arith)) in
-      let b = h n (omega arith) in
-      λ i. r.join (a i) (b i)
-
-  pub changed_same : (n : ℕ) → ((t : ℕ) → t < n → f t ≡ g t) → changed r f n ≡ changed r g n
-  unfolding changed
-  changed_same zero h = refl
-  changed_same (suc n) h =
-      let a = joined_same (suc n) h in
-      let b = joined_same n (λ t lt. h t (omega arith)) in
-      let c = changed_same n (λ t lt. h t (omega arith)) in
-      λ i. cond (r.same (a i) (b i)) (c i) n
-
--- what a template brings to a place rests on the places before it, and on the scores of nodes that end there
+-- what a place is given rests on the places before it, and on the scores of nodes that end there
 module _ {X : Type 0} (r : Rule X) (ds : List ℕ) (positive : Positive ds) (score other : ℕ → ℕ → ℤ) (u v : ℕ → X) (p : ℕ)
     (before : (q : ℕ) → q < p → u q ≡ v q) (ending : (x t : ℕ) → t < length ds → x + get_or ds t 0 ≡ p → score x t ≡ other x t) where
-  pub brings_same : (t : ℕ) → t < length ds → brings r ds score u p t ≡ brings r ds other v p t
-  brings_same t known =
-      let some : 1 ≤ get_or ds t 0 = positive t known in
-      ⊎_elim
-      (λ e.
-      let few : get_or ds t 0 ≤ p = leb-true (get_or ds t 0) p e in
-      let a : u (p - get_or ds t 0) ≡ v (p - get_or ds t 0) = before (p - get_or ds t 0) (omega arith) in
-      let b : score (p - get_or ds t 0) t ≡ other (p - get_or ds t 0) t = ending (p - get_or ds t 0) t known (omega arith) in
-      λ i. cond (leb (get_or ds t 0) p) (r.extend (a i) (b i)) r.none)
-      (λ e. cond-false (leb (get_or ds t 0) p) _ r.none e ∙ sym (cond-false (leb (get_or ds t 0) p) _ r.none e))
-      (cases_Bool (leb (get_or ds t 0) p))
-
   pub work_same : work r ds score u p ≡ work r ds other v p
-  work_same = joined_same r (brings r ds score u p) (brings r ds other v p) (length ds) brings_same
+  work_same =
+      work_related r r (◌≡◌ {A = X}) refl (λ a b c d e f i. r.join (e i) (f i)) ds positive score other u v p
+      (λ q t lt known e i. r.extend (before q lt i) (ending q t known e i))
 
   pub work_last_same : work_last r ds score u p ≡ work_last r ds other v p
-  work_last_same = changed_same r (brings r ds score u p) (brings r ds other v p) (length ds) brings_same
+  work_last_same =
+      work_last_related r r (◌≡◌ {A = X}) refl (λ a b c d e f i. r.join (e i) (f i)) ds positive score other u v p
+      (λ q t lt known e i. r.extend (before q lt i) (ending q t known e i)) (λ a b c d e f i. r.same (e i) (f i))
 
 module _ {X : Type 0} (r : Rule X) (ds : List ℕ) (positive : Positive ds) (score : ℕ → ℕ → ℤ) where
   -- more turns than a place needs change nothing
@@ -75,12 +48,29 @@ module _ {X : Type 0} (r : Rule X) (ds : List ℕ) (positive : Positive ds) (sco
   values_swept w = record { starts = value_start; works = λ p lt. value_works p }
 
   pub swept_values : (v : ℕ → X) (w : ℕ) → Swept r ds score v w → (p : ℕ) → p ≤ w → v p ≡ place_value r ds score p
-  swept_values v w s p h = below (suc p) p (omega arith) h
+  swept_values v w s = by_places (λ p. p ≤ w → v p ≡ place_value r ds score p) next
     where
-      below : (n q : ℕ) → q < n → q ≤ w → v q ≡ place_value r ds score q
-      below zero q lt le = absurd (omega arith)
-      below (suc n) zero lt le = s.starts ∙ sym value_start
-      below (suc n) (suc q) lt le =
-          s.works q (omega arith)
-          ∙ work_same r ds positive score score v (place_value r ds score) (suc q) (λ k m. below n k (omega arith) (omega arith)) (λ x t known e. refl)
-          ∙ sym (value_works q)
+      next : (p : ℕ) → ((q : ℕ) → q < p → q ≤ w → v q ≡ place_value r ds score q) → p ≤ w → v p ≡ place_value r ds score p
+      next zero before le = s.starts ∙ sym value_start
+      next (suc p) before le =
+          s.works p (omega arith)
+          ∙ work_same r ds positive score score v (place_value r ds score) (suc p) (λ q lt. before q lt (omega arith)) (λ x t known e. refl)
+          ∙ sym (value_works p)
+
+-- what relates the starts and the nones of two rules, and goes through their joins and extensions, relates what sweeps give
+module _ {X Y : Type 0} (r : Rule X) (s : Rule Y) (R : ℕ → X → Y → Type 0) (start : R 0 r.start s.start) (none : (p : ℕ) → R p r.none s.none)
+    (join : (p : ℕ) (a b : X) (c d : Y) → R p a c → R p b d → R p (r.join a b) (s.join c d)) (ds : List ℕ) (positive : Positive ds)
+    (score other : ℕ → ℕ → ℤ)
+    (extend : (q p t : ℕ) (a : X) (c : Y) → q < p → R q a c → R p (r.extend a (score q t)) (s.extend c (other q t))) where
+  pub values_related : (p : ℕ) → R p (place_value r ds score p) (place_value s ds other p)
+  values_related = by_places (λ p. R p (place_value r ds score p) (place_value s ds other p)) next
+    where
+      next : (p : ℕ) → ((q : ℕ) → q < p → R q (place_value r ds score q) (place_value s ds other q)) → R p (place_value r ds score p) (place_value s ds other p)
+      next zero before =
+          subst (λ a. R 0 a (place_value s ds other 0)) (sym (value_start r ds positive score))
+          (subst (R 0 r.start) (sym (value_start s ds positive other)) start)
+      next (suc p) before =
+          let here = work_related r s (R (suc p)) (none (suc p)) (join (suc p)) ds positive score other (place_value r ds score) (place_value s ds other) (suc p)
+          (λ q t lt known e. extend q (suc p) t (place_value r ds score q) (place_value s ds other q) lt (before q lt)) in
+          subst (λ a. R (suc p) a (place_value s ds other (suc p))) (sym (value_works r ds positive score p))
+          (subst (R (suc p) (work r ds score (place_value r ds score) (suc p))) (sym (value_works s ds positive other p)) here)

@@ -2,37 +2,37 @@
 use Rattle.std.proofs.Common.{◌≡◌, ℕ, zero, suc, ◌-◌, ◌<◌, ◌≤◌, Bool, true, false, leb, ◌⊎◌, List, [], ◌∷◌, length, get_or, ℤ, pos, ◌+ℤ◌, ◌≤ℤ◌, ◌<ℤ◌, Some, None, Option, sym, refl, ap, ◌∙◌, subst, inl, inr, ⊎_elim, arith}
 use Rattle.std.proofs.lemmas.Int.{ints, by_lt_z}
 use Rattle.std.proofs.lemmas.Bool.{leb-true, le-leb, cases_lt, cases_order, cond-true, cond-false, cond_both}
+use Rattle.std.proofs.lemmas.Option.{none-some}
 use Rattle.std.specs.Int.{int_max}
-use Rattle.paths.specs.Combining.{Rule, totals, greater, same_total}
+use Rattle.std.specs.Option.{option_eq}
+use Rattle.std.specs.Ordering.{int_eq}
+use Rattle.paths.specs.Combining.{Rule, totals, greater}
 use Rattle.paths.specs.Paths.{Positive, end_of, Leads, total, Earlier, FirstBest, OneFirstBest}
 use Rattle.paths.specs.Sweep.{joined, changed, brings, place_value, place_last}
 use Rattle.paths.specs.Totals.{last_node, follow_within, follow, TellsBest}
 use Rattle.paths.specs.declared.Node.{Node}
 use Rattle.paths.proofs.Basics.{value_start, value_works}
 use Rattle.paths.proofs.Order.{same_node, only_first_best}
-
--- a total is not nothing
-some_not_none : (o : Option ℤ) (z : ℤ) → o ≡ Some z → o ≡ None → ⊥
-some_not_none o z e f = let no : ◌≡◌ {A = ℕ} 0 1 = cc in omega arith
+use Rattle.paths.proofs.Related.{by_places}
 
 -- the greater of two totals is at least the first of them
 greater_left : (a b : Option ℤ) (y : ℤ) → a ≡ Some y → (z : ℤ) × (greater a b ≡ Some z) × (y ≤ℤ z)
-greater_left None b y e = absurd (some_not_none None y e refl)
+greater_left None b y e = absurd (none-some y e)
 greater_left (Some x) None y e = (x, refl, let same : y ≡ x = cc in omega (arith, ints))
 greater_left (Some x) (Some w) y e = (int_max x w, refl, let same : y ≡ x = cc in rw same (grind (arith, ints)))
 
 -- and at least the second
 greater_right : (a b : Option ℤ) (y : ℤ) → b ≡ Some y → (z : ℤ) × (greater a b ≡ Some z) × (y ≤ℤ z)
 greater_right None b y e = (y, e, omega (arith, ints))
-greater_right (Some x) None y e = absurd (some_not_none None y e refl)
+greater_right (Some x) None y e = absurd (none-some y e)
 greater_right (Some x) (Some w) y e = (int_max x w, refl, let same : y ≡ w = cc in rw same (grind (arith, ints)))
 
 -- the greater of two totals is the first of them, or the second, which is then above the first
 greater_picks : (a b : Option ℤ) (z : ℤ) → greater a b ≡ Some z
-    → ((a ≡ Some z) × (same_total (greater a b) a ≡ true))
-    ⊎ ((b ≡ Some z) × (same_total (greater a b) a ≡ false) × ((y : ℤ) → a ≡ Some y → y <ℤ z))
-greater_picks None None z e = absurd (some_not_none None z e refl)
-greater_picks None (Some w) z e = inr (e, refl, λ y f. absurd (some_not_none None y f refl))
+    → ((a ≡ Some z) × (option_eq int_eq (greater a b) a ≡ true))
+    ⊎ ((b ≡ Some z) × (option_eq int_eq (greater a b) a ≡ false) × ((y : ℤ) → a ≡ Some y → y <ℤ z))
+greater_picks None None z e = absurd (none-some z e)
+greater_picks None (Some w) z e = inr (e, refl, λ y f. absurd (none-some y f))
 greater_picks (Some x) None z e = inl (e, grind (arith, ints))
 greater_picks (Some x) (Some w) z e =
     let top : int_max x w ≡ z = cc in
@@ -66,7 +66,7 @@ module _ (f : ℕ → Option ℤ) where
     where
       go : (o : Option ℤ) → f t ≡ o → f t ≡ None
       go None g = g
-      go (Some y) g = let r = joined_above n t lt y g in absurd (some_not_none (joined totals f n) r.0 r.1 e)
+      go (Some y) g = let r = joined_above n t lt y g in absurd (none-some r.0 (sym e ∙ r.1))
 
   -- the join of totals is at least each of them
   pub joined_greatest : (n : ℕ) (z : ℤ) → joined totals f n ≡ Some z → (t : ℕ) → t < n → (y : ℤ) → f t ≡ Some y → y ≤ℤ z
@@ -79,10 +79,10 @@ module _ (f : ℕ → Option ℤ) where
   pub changed_lowest : (n : ℕ) (z : ℤ) → joined totals f n ≡ Some z
       → (changed totals f n < n) × (f (changed totals f n) ≡ Some z) × ((k : ℕ) → k < changed totals f n → f k ≡ Some z → ⊥)
   unfolding joined changed
-  changed_lowest zero z e = absurd (some_not_none None z e refl)
+  changed_lowest zero z e = absurd (none-some z e)
   changed_lowest (suc n) z e =
       ⊎_elim
-      (λ (a : (joined totals f n ≡ Some z) × (same_total (joined totals f (suc n)) (joined totals f n) ≡ true)).
+      (λ (a : (joined totals f n ≡ Some z) × (option_eq int_eq (joined totals f (suc n)) (joined totals f n) ≡ true)).
       let r = changed_lowest n z a.0 in
       let is : changed totals f (suc n) ≡ changed totals f n = cond-true _ (changed totals f n) n a.1 in
       rw is (omega (arith, r.0), r.1, r.2))
@@ -176,8 +176,8 @@ module _ (ds : List ℕ) (score : ℕ → ℕ → ℤ) (v : ℕ → Option ℤ) 
     where
       go : (b : Bool) → leb (get_or ds t 0) p ≡ b → (o : Option ℤ) → v (p - get_or ds t 0) ≡ o
           → (y : ℤ) × (get_or ds t 0 ≤ p) × (v (p - get_or ds t 0) ≡ Some y) × (y +ℤ score (p - get_or ds t 0) t ≡ z)
-      go false f o g = absurd (some_not_none None z (rw f at e) refl)
-      go true f None g = absurd (some_not_none None z (rw (f, g) at e) refl)
+      go false f o g = absurd (none-some z (rw f at e))
+      go true f None g = absurd (none-some z (rw (f, g) at e))
       go true f (Some y) g =
           let is : Some (y +ℤ score (p - get_or ds t 0) t) ≡ Some z = rw (f, g) at e in
           (y, leb-true (get_or ds t 0) p f, g, cc)
@@ -274,28 +274,31 @@ module _ (ds : List ℕ) (positive : Positive ds) (score : ℕ → ℕ → ℤ) 
       )
 
   -- from a place with a total last templates give the first best path there, and it has that total
-  follow_best : (n p : ℕ) → p < n → (z : ℤ) → place_value totals ds score p ≡ Some z → BestWith ds score p z (follow ds (place_last totals ds score) p)
-  follow_best zero p lt z e = absurd (omega arith)
-  follow_best (suc n) zero lt z e = rw (follow_start ds (place_last totals ds score)) (best_start z e)
-  follow_best (suc n) (suc p) lt z e =
-      let c = changed_lowest (brings totals ds score (place_value totals ds score) (suc p)) (length ds) z (sym (value_works totals ds positive score p) ∙ e) in
-      let b = brought_from ds score (place_value totals ds score) (suc p) (place_last totals ds score (suc p)) z c.1 in
-      let wide : 1 ≤ get_or ds (place_last totals ds score (suc p)) 0 = positive (place_last totals ds score (suc p)) c.0 in
-      let few : get_or ds (place_last totals ds score (suc p)) 0 ≤ suc p = b.1 in
-      let some : 0 < length ds = omega (arith, c.0) in
-      let before = follow_best n (suc p - get_or ds (place_last totals ds score (suc p)) 0) (omega arith) b.0 b.2 in
-      rw (follow_more ds (place_last totals ds score) p (λ q le. last_positive totals ds positive some score (suc q)))
-      (best_more p z b.0 e (last_node ds (place_last totals ds score) (suc p))
-      (follow ds (place_last totals ds score) (suc p - get_or ds (place_last totals ds score (suc p)) 0))
-      c.0 (omega arith) b.3 c.2 before)
+  follow_best : (p : ℕ) (z : ℤ) → place_value totals ds score p ≡ Some z → BestWith ds score p z (follow ds (place_last totals ds score) p)
+  follow_best = by_places (λ p. (z : ℤ) → place_value totals ds score p ≡ Some z → BestWith ds score p z (follow ds (place_last totals ds score) p)) next
+    where
+      next : (p : ℕ) → ((q : ℕ) → q < p → (z : ℤ) → place_value totals ds score q ≡ Some z → BestWith ds score q z (follow ds (place_last totals ds score) q))
+          → (z : ℤ) → place_value totals ds score p ≡ Some z → BestWith ds score p z (follow ds (place_last totals ds score) p)
+      next zero before z e = rw (follow_start ds (place_last totals ds score)) (best_start z e)
+      next (suc p) before z e =
+          let c = changed_lowest (brings totals ds score (place_value totals ds score) (suc p)) (length ds) z (sym (value_works totals ds positive score p) ∙ e) in
+          let b = brought_from ds score (place_value totals ds score) (suc p) (place_last totals ds score (suc p)) z c.1 in
+          let wide : 1 ≤ get_or ds (place_last totals ds score (suc p)) 0 = positive (place_last totals ds score (suc p)) c.0 in
+          let few : get_or ds (place_last totals ds score (suc p)) 0 ≤ suc p = b.1 in
+          let some : 0 < length ds = omega (arith, c.0) in
+          let rest = before (suc p - get_or ds (place_last totals ds score (suc p)) 0) (omega arith) b.0 b.2 in
+          rw (follow_more ds (place_last totals ds score) p (λ q le. last_positive totals ds positive some score (suc q)))
+          (best_more p z b.0 e (last_node ds (place_last totals ds score) (suc p))
+          (follow ds (place_last totals ds score) (suc p - get_or ds (place_last totals ds score (suc p)) 0))
+          c.0 (omega arith) b.3 c.2 rest)
 
   -- totals with last templates tell the first best paths
   pub tells_best : (p : ℕ) → TellsBest ds score p (place_value totals ds score p) (place_last totals ds score)
   tells_best p =
       record {
-        unreached = λ e path l. let r = reached_by p path l in some_not_none (place_value totals ds score p) r.0 r.1 e;
-        best = λ z e. (follow_best (suc p) p (omega arith) z e).0;
-        its_total = λ z e. (follow_best (suc p) p (omega arith) z e).1;
+        unreached = λ e path l. let r = reached_by p path l in none-some r.0 (sym e ∙ r.1);
+        best = λ z e. (follow_best p z e).0;
+        its_total = λ z e. (follow_best p z e).1;
       }
 
   -- where any path leads to a place, there is a first best one, and only one

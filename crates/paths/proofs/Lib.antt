@@ -3,6 +3,7 @@ pub mod Best
 pub mod Joins
 pub mod Limits
 pub mod Order
+pub mod Related
 pub mod Rules
 pub mod Runs
 pub mod Skips

@@ -1,65 +1,38 @@
 -- The combinings in use keep the laws that a sweep wants of them. Assumes nothing.
-use Rattle.std.proofs.Common.{◌≡◌, ℕ, Bool, true, false, ◌||◌, ℤ, pos, negsuc, ◌+ℤ◌, ◌≤ℤ◌, Some, None, Decides, Option, sym, refl, ap, ◌∙◌, arith}
+use Rattle.std.proofs.Common.{◌≡◌, ℕ, Bool, ℤ, pos, negsuc, ◌+ℤ◌, ◌≤ℤ◌, Some, None, Decides, Option, sym, refl, ap, ◌∙◌, arith}
+use Rattle.std.proofs.Math.Bool.{or_assoc, or_comm, or-false}
 use Rattle.std.proofs.lemmas.Int.{ints, by_lt_z}
-use Rattle.std.proofs.lemmas.Bool.{false≢true}
+use Rattle.std.proofs.lemmas.Bool.Decides.{Decides-int_eq}
+use Rattle.std.specs.Cmp.{booleans_Decides}
 use Rattle.std.specs.Int.{int_max, saturate_to_bits}
-use Rattle.paths.specs.Combining.{RuleLawful, same_answer, reach, added, greater, same_score, same_total, totals_by, totals, capped_totals}
-
--- yes from any of three: the grouping does not matter
-or_associative : (a b c : Bool) → ((a || b) || c) ≡ (a || (b || c))
-or_associative true b c = refl
-or_associative false b c = refl
-
--- yes from either of two: the order does not matter
-or_commutative : (a b : Bool) → (a || b) ≡ (b || a)
-or_commutative true true = refl
-or_commutative true false = refl
-or_commutative false true = refl
-or_commutative false false = refl
-
--- a no beside an answer changes nothing
-or_neutral : (a : Bool) → (a || false) ≡ a
-or_neutral true = refl
-or_neutral false = refl
-
--- the test of two answers tells whether they are the same
-same_answer_tells : (a b : Bool) → Decides (same_answer a b) (a ≡ b)
-same_answer_tells true b = (sym, sym)
-same_answer_tells false true = (λ e. e, λ e. e)
-same_answer_tells false false = (λ e. refl, λ e. refl)
+use Rattle.std.specs.Option.{option_eq}
+use Rattle.std.specs.Ordering.{int_eq}
+use Rattle.paths.specs.Combining.{RuleLawful, reach, added, greater, totals_by, totals, capped_totals}
 
 -- whether a path comes to a place keeps the laws
 pub reach_lawful : RuleLawful Bool reach
 reach_lawful = record {
-  associative = or_associative;
-  commutative = or_commutative;
-  neutral = or_neutral;
+  associative = or_assoc;
+  commutative = or_comm;
+  neutral = or-false;
   spreads = λ a b s. refl;
   none_stays = λ s. refl;
-  same_tells = same_answer_tells;
+  same_tells = booleans_Decides;
 }
-
--- the greatest of three sums: the grouping does not matter
-max_associative : (a b c : ℤ) → int_max (int_max a b) c ≡ int_max a (int_max b c)
-max_associative a b c = grind (arith, ints)
-
--- the greater of two sums: the order does not matter
-max_commutative : (a b : ℤ) → int_max a b ≡ int_max b a
-max_commutative a b = grind (arith, ints)
 
 -- the greatest of three totals, of which some may be missing: the grouping does not matter
 greater_associative : (a b c : Option ℤ) → greater (greater a b) c ≡ greater a (greater b c)
 greater_associative None b c = refl
 greater_associative (Some a) None c = refl
 greater_associative (Some a) (Some b) None = refl
-greater_associative (Some a) (Some b) (Some c) = ap Some (max_associative a b c)
+greater_associative (Some a) (Some b) (Some c) = ap Some (grind (arith, ints))
 
 -- the greater of two totals: the order does not matter
 greater_commutative : (a b : Option ℤ) → greater a b ≡ greater b a
 greater_commutative None None = refl
 greater_commutative None (Some b) = refl
 greater_commutative (Some a) None = refl
-greater_commutative (Some a) (Some b) = ap Some (max_commutative a b)
+greater_commutative (Some a) (Some b) = ap Some (grind (arith, ints))
 
 -- a missing total beside another changes nothing
 greater_neutral : (a : Option ℤ) → greater a None ≡ a
@@ -86,16 +59,12 @@ greater_added cap rising None b s = refl
 greater_added cap rising (Some a) None s = refl
 greater_added cap rising (Some a) (Some b) s = ap Some (max_added cap rising a b s)
 
--- the test of two sums tells whether they are the same
-pub same_score_tells : (a b : ℤ) → Decides (same_score a b) (a ≡ b)
-same_score_tells a b = (λ e. grind (arith, ints), λ e. grind (arith, ints))
-
 -- the test of two totals tells whether they are the same
-same_total_tells : (a b : Option ℤ) → Decides (same_total a b) (a ≡ b)
+same_total_tells : (a b : Option ℤ) → Decides (option_eq int_eq a b) (a ≡ b)
 same_total_tells None None = (λ e. refl, λ e. refl)
-same_total_tells None (Some b) = (λ e. absurd (false≢true e), λ e. cc)
-same_total_tells (Some a) None = (λ e. absurd (false≢true e), λ e. cc)
-same_total_tells (Some a) (Some b) = (λ e. ap Some ((same_score_tells a b).0 e), λ e. (same_score_tells a b).1 (cc))
+same_total_tells None (Some b) = (λ e. cc, λ e. cc)
+same_total_tells (Some a) None = (λ e. cc, λ e. cc)
+same_total_tells (Some a) (Some b) = (λ e. ap Some ((Decides-int_eq a b).0 e), λ e. (Decides-int_eq a b).1 (cc))
 
 -- totals keep the laws, however their sums are held to a range, so long as a greater sum stays no less
 pub totals_by_lawful : (cap : ℤ → ℤ) → ((a b : ℤ) → a ≤ℤ b → cap a ≤ℤ cap b) → RuleLawful (Option ℤ) (totals_by cap)

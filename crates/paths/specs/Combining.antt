@@ -1,6 +1,9 @@
 -- What a sweep can combine, the laws that it owes, and the two combinings in use. Assumes nothing.
-use Rattle.std.specs.Prelude.{◌≡◌, Bool, true, false, not, ◌&&◌, ◌||◌, ℤ, pos, ◌+ℤ◌, Some, None, Decides, Option, int_le}
+use Rattle.std.specs.Prelude.{◌≡◌, Bool, true, false, ◌||◌, ℤ, pos, ◌+ℤ◌, Some, None, Decides, Option}
 use Rattle.std.specs.Int.{int_max, saturate_to_bits}
+use Rattle.std.specs.Option.{option_eq}
+use Rattle.std.specs.Ordering.{int_eq}
+use Rattle.std.proofs.Math.Bool.{beq}
 
 -- a start, a none, how a value is extended by a score, how two are joined; and a test whether two are the same
 pub record Rule (X : Type 0) : Type 0 where
@@ -19,12 +22,8 @@ pub record RuleLawful (X : Type 0) (r : Rule X) : Type 0 where
   pub same_tells : (a b : X) → Decides (r.same a b) (a ≡ b)
 
 -- yes or no: does a path come here
-abbrev pub same_answer : Bool → Bool → Bool
-same_answer true b = b
-same_answer false b = not b
-
 abbrev pub reach : Rule Bool
-reach = record { start = true; none = false; extend = λ b _. b; join = ◌||◌; same = same_answer }
+reach = record { start = true; none = false; extend = λ b _. b; join = ◌||◌; same = beq }
 
 -- totals: nothing, or a sum, which extending adds to and of which joining takes the greater
 abbrev pub added : (ℤ → ℤ) → Option ℤ → ℤ → Option ℤ
@@ -36,17 +35,8 @@ greater None b = b
 greater (Some a) None = Some a
 greater (Some a) (Some b) = Some (int_max a b)
 
-abbrev pub same_score : ℤ → ℤ → Bool
-same_score a b = int_le a b && int_le b a
-
-abbrev pub same_total : Option ℤ → Option ℤ → Bool
-same_total None None = true
-same_total None (Some b) = false
-same_total (Some a) None = false
-same_total (Some a) (Some b) = same_score a b
-
 abbrev pub totals_by : (ℤ → ℤ) → Rule (Option ℤ)
-totals_by cap = record { start = Some (pos 0); none = None; extend = added cap; join = greater; same = same_total }
+totals_by cap = record { start = Some (pos 0); none = None; extend = added cap; join = greater; same = option_eq int_eq }
 
 abbrev pub totals : Rule (Option ℤ)
 totals = totals_by (λ z. z)

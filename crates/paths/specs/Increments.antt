@@ -1,6 +1,7 @@
 -- The incremental sweep: which places it works, and what it rests on. Assumes nothing.
 use Rattle.std.specs.Prelude.{◌≡◌, ℕ, zero, suc, ◌+◌, ◌-◌, ◌<◌, ◌≤◌, min, max, Bool, true, false, cond, not, ◌&&◌, ◌||◌, List, length, ℤ, pos, ◌-ℤ◌, Some, None, fold, Option, slice_index}
-use Rattle.paths.specs.Combining.{totals, same_score}
+use Rattle.std.specs.Ordering.{int_eq}
+use Rattle.paths.specs.Combining.{totals}
 use Rattle.paths.specs.Sweep.{place_value, place_last}
 
 -- the new total less the old one; where a place is not reached, the difference of the place before
@@ -16,7 +17,7 @@ difference old new (suc p) = differ (old (suc p)) (new (suc p)) (difference old 
 -- whether the n places before p have one difference
 unfoldable pub one_difference : (ℕ → ℤ) → ℕ → ℕ → Bool
 one_difference d p zero = true
-one_difference d p (suc n) = one_difference d p n && same_score (d (p - suc n)) (d (p - 1))
+one_difference d p (suc n) = one_difference d p n && int_eq (d (p - suc n)) (d (p - 1))
 
 -- the largest setwidth
 abbrev pub longest : List ℕ → ℕ
@@ -39,7 +40,7 @@ moved v d = totals.extend v d
 -- how many places up to p, p the last of them, have the difference of p
 unfoldable pub run_length : (ℕ → ℤ) → ℕ → ℕ
 run_length d zero = 1
-run_length d (suc p) = cond (same_score (d (suc p)) (d p)) (run_length d p + 1) 1
+run_length d (suc p) = cond (int_eq (d (suc p)) (d p)) (run_length d p + 1) 1
 
 -- old totals and last templates are those of a sweep over earlier scores, which since then changed at nodes alone whose
 -- ends are noted as fresh

@@ -1,6 +1,6 @@
 -- The sweep: what it gives each place, and what that is of the paths that lead there. Assumes nothing.
-use Rattle.std.specs.Prelude.{◌≡◌, ℕ, zero, suc, ◌-◌, ◌<◌, cond, List, [], ◌∷◌, map, length, ℤ, ◌≢◌, nat_le, slice_index, slice_index_or}
-use Rattle.std.specs.List.{ContainsAt, AllByRecursion}
+use Rattle.std.specs.Prelude.{◌≡◌, ℕ, zero, suc, ◌-◌, ◌<◌, cond, List, [], ◌∷◌, map, length, ℤ, ◌≢◌, nat_le, slice_index}
+use Rattle.std.specs.List.{All, AllPairs, Contains}
 use Rattle.paths.specs.Combining.{Rule}
 use Rattle.paths.specs.Paths.{Leads}
 use Rattle.paths.specs.declared.Node.{Node}
@@ -56,9 +56,9 @@ join_all r (x ∷ xs) = r.join x (join_all r xs)
 
 -- a list of all the paths that lead to a place, each of them once
 pub record EachPathOnce (ds : List ℕ) (p : ℕ) (paths : List (List Node)) : Type 0 where
-  pub lead : AllByRecursion (Leads ds p) paths
-  pub every : (path : List Node) → Leads ds p path → ContainsAt paths path
-  pub once : (i j : ℕ) (d : List Node) → i < j → j < length paths → slice_index_or paths i d ≢ slice_index_or paths j d
+  pub lead : All (Leads ds p) paths
+  pub every : (path : List Node) → Leads ds p path → Contains paths path
+  pub once : AllPairs ◌≢◌ paths
 
 -- the value at a place is the join, over all paths that lead there, of the start extended along the path, each path once
 pub record Joins {X : Type 0} (r : Rule X) (ds : List ℕ) (score : ℕ → ℕ → ℤ) (p : ℕ) (v : X) : Type 0 where

@@ -1,23 +1,20 @@
 // What a sweep can combine: the laws, and the two combinings in use.
-ghost use Rattle.std.specs.Prelude.{◌≡◌, ℕ};
-ghost use Rattle.cells.specs.declared.cell.Cell.{Cell};
+ghost use Rattle.std.specs.Prelude.{◌≡◌, ℤ, Option, is_some, refl};
 ghost use Rattle.paths.specs.Combining.{Rule, RuleLawful, reach, capped_totals};
 ghost use Rattle.paths.proofs.Rules.{reach_lawful, capped_lawful};
-ghost use Rattle.sweep.specs.Held.{held_answer, stored_answer, answer_kept, held_total, stored_total, total_kept};
+ghost use Rattle.sweep.specs.Held.{stored_answer, answer_kept};
 
-use cells::Cell;
-
-// A start, a none, an extending by a score and a joining, with their laws; and how a place's cell holds a value.
-pub trait Combining: Copy {
+// A start, a none, an extending by a score and a joining, with their laws; and how the total of a place's cell holds a value.
+pub trait Combining: Copy + PartialEq {
     ghost rule: { Rule Self };
 
     ghost lawful: { RuleLawful Self rule };
 
-    ghost held: { Cell → Self };
+    ghost held: { Option ℤ → Self };
 
-    ghost stored: { Self → ℕ → Cell };
+    ghost stored: { Self → Option ℤ };
 
-    ghost kept: { (v : Self) (last : ℕ) → held (stored v last) ≡ v };
+    ghost kept: { (v : Self) → held (stored v) ≡ v };
 
     // The value of the empty path.
     fn start() -> Self
@@ -35,17 +32,15 @@ pub trait Combining: Copy {
     fn join(self, other: Self) -> Self
         ensures { result ≡ rule.join self other };
 
-    // Whether both are the same value.
-    fn same(self, other: Self) -> bool
-        ensures { result ≡ rule.same self other };
+    // The value that a place's total holds. Not by From, since neither bool nor Option is this crate's to convert.
+    fn load(total: Option<i64>) -> Self
+        ensures { result ≡ held total };
 
-    // The value that a place's cell holds.
-    fn load(cell: Cell) -> Self
-        ensures { result ≡ held cell };
+    // The total of a place with this value.
+    fn store(self) -> Option<i64>
+        ensures { result ≡ stored self };
 
-    // The cell of a place with this value and last template.
-    fn store(self, last: usize) -> Cell
-        ensures { result ≡ stored self last };
+    ghost same: { (a b : Self) → Self.eq a b ≡ rule.same a b };
 }
 
 // Yes or no: does a path lead here?
@@ -54,11 +49,13 @@ impl Combining for bool {
 
     ghost lawful = { reach_lawful };
 
-    ghost held = { held_answer };
+    ghost held = { λ total. is_some total };
 
     ghost stored = { stored_answer };
 
     ghost kept = { answer_kept };
+
+    ghost same = { λ a b. refl };
 
     fn start() -> bool {
         true
@@ -76,22 +73,12 @@ impl Combining for bool {
         self || other
     }
 
-    fn same(self, other: bool) -> bool {
-        self == other
+    fn load(total: Option<i64>) -> bool {
+        total.is_some()
     }
 
-    fn load(cell: Cell) -> bool {
-        cell.marked
-    }
-
-    fn store(self, last: usize) -> Cell {
-        Cell {
-            score: 0,
-            marked: self,
-            fresh: false,
-            template: last,
-            stop: 0,
-        }
+    fn store(self) -> Option<i64> {
+        self.then_some(0)
     }
 }
 
@@ -101,11 +88,13 @@ impl Combining for Option<i64> {
 
     ghost lawful = { capped_lawful };
 
-    ghost held = { held_total };
+    ghost held = { λ total. total };
 
-    ghost stored = { stored_total };
+    ghost stored = { λ total. total };
 
-    ghost kept = { total_kept };
+    ghost kept = { λ total. refl };
+
+    ghost same = { λ a b. refl };
 
     fn start() -> Option<i64> {
         Some(0)
@@ -116,37 +105,18 @@ impl Combining for Option<i64> {
     }
 
     fn extend(self, score: i64) -> Option<i64> {
-        let total = self?;
-        Some(total.saturating_add(score))
+        self.map(|total| total.saturating_add(score))
     }
 
     fn join(self, other: Option<i64>) -> Option<i64> {
-        match (self, other) {
-            (None, _) => other,
-            (_, None) => self,
-            (Some(a), Some(b)) => Some(a.max(b)),
-        }
+        self.max(other)
     }
 
-    fn same(self, other: Option<i64>) -> bool {
-        match (self, other) {
-            (None, None) => true,
-            (Some(a), Some(b)) => a == b,
-            _ => false,
-        }
+    fn load(total: Option<i64>) -> Option<i64> {
+        total
     }
 
-    fn load(cell: Cell) -> Option<i64> {
-        if cell.marked { Some(cell.score) } else { None }
-    }
-
-    fn store(self, last: usize) -> Cell {
-        let mut cell = Cell::blank();
-        cell.template = last;
-        if let Some(total) = self {
-            cell.score = total;
-            cell.marked = true;
-        }
-        cell
+    fn store(self) -> Option<i64> {
+        self
     }
 }

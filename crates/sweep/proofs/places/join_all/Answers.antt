@@ -1,33 +1,21 @@
-use Rattle.std.proofs.Common.{◌≡◌, length, vec_items, refl, ap, ◌∙◌, arith}
-use Rattle.cells.proofs.Views.{length_widths}
-use Rattle.cells.specs.Layout.{score_in}
-use Rattle.cells.specs.Line.{widths}
-use Rattle.paths.specs.Sweep.{brings, joined, changed}
-use Rattle.sweep.specs.Swept.{values_in}
-use Rattle.sweep.proofs.Joining.{joined_next, changed_next}
+use Rattle.std.proofs.Common.{◌≡◌, fold, refl, ap, ◌∙◌, arith, rules}
+use Rattle.std.proofs.lemmas.Iterator.{YieldsList-from_range}
+use Rattle.std.proofs.lemmas.Iterator.Consumers.{fold_from_yields_List}
+use Rattle.std.specs.List.{range_with_len}
+use Rattle.cells.specs.Line.{templates}
+use Rattle.sweep.specs.Swept.{brought}
+use Rattle.sweep.proofs.Joining.{next, sofar, folded}
 use Rattle.sweep.proofs.places.join_all.Goals as goal
-
-pub loop-t-init : goal.loop-t-init
-unfolding joined changed
-loop-t-init g c = (c.none.ensures, refl)
-
-pub loop-t-preserved : goal.loop-t-preserved
-loop-t-preserved g c =
-    let r = g.C.Combining.rule in
-    let l = c.args.line.now in
-    let cells = vec_items c.args.cells.now in
-    let f = brings r (widths l) (score_in l cells) (values_in g.C.Combining.held l cells) c.args.p in
-    let value = c.loop-t.invariant.0 in
-    let step = c.join_in-sofar.ensures in (
-      step.value ∙ joined_next r f c.loop-t.t c.loop-t.sofar.value c.brought.result value c.brought.ensures,
-      step.last ∙ changed_next r f c.loop-t.t c.loop-t.sofar.value c.brought.result value c.brought.ensures c.loop-t.sofar.last c.loop-t.invariant.1,
-    )
 
 pub returns : goal.returns
 returns g c =
     let r = g.C.Combining.rule in
-    let l = c.args.line.now in
-    let cells = vec_items c.args.cells.now in
-    let f = brings r (widths l) (score_in l cells) (values_in g.C.Combining.held l cells) c.args.p in
-    let all : c.loop-t.t ≡ length (widths l) = omega (arith, length_widths l) in
-    record { value = c.loop-t.invariant.0 ∙ ap (joined r f) all; last = c.loop-t.invariant.1 ∙ ap (changed r f) all }
+    let lattice = c.args.lattice.now in
+    let f = brought r g.C.Combining.held lattice.line.now lattice.cells.now c.args.p in
+    let nothing = c.nothing.ensures in
+    let count = c.count.result in
+    let e : c.fold.result ≡ fold (next r f) c.nothing.result (range_with_len 0 count) =
+    fold_from_yields_List _ (next r f) c.nothing.result c.fold.result c.fold.ensures.ran (YieldsList-from_range 0 count count refl (omega arith)) (λ a t b q k. search rules) in
+    let is : c.fold.result ≡ sofar r f (templates lattice.line.now) =
+    e ∙ folded r f c.nothing.result (λ i. record { value = nothing.value i; last = nothing.last i }) count ∙ ap (sofar r f) c.count.ensures in
+    record { value = ap (λ j. j.value) is; last = ap (λ j. j.last) is }
