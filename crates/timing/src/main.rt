@@ -21,7 +21,7 @@ struct Total {
 }
 
 impl Total {
-    // The total with the score of one node more.
+    // The total with the score of one node more: `sum` and `count` would ask each score twice.
     fn with(self, score: i64) -> Total {
         Total {
             sum: self.sum.wrapping_add(score),
