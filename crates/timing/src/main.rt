@@ -4,7 +4,6 @@
 
 mod made;
 
-use anyhow::anyhow;
 use face::Face;
 use made::{make_face, make_photograph};
 use photo::Photograph;
@@ -61,14 +60,10 @@ fn main(rt: HostRuntime) -> anyhow::Result<()> {
     let heap = rt.alloc();
     let face_bytes = make_face(heap)?;
     let photo_bytes = make_photograph(heap)?;
-    let Ok(()) = face::check(&face_bytes) else {
-        return Err(anyhow!("the face is refused"));
-    };
+    face::check(&face_bytes)?;
     let face = Face::new(&face_bytes);
     let rows = face.height() + 4;
-    let Ok(header) = photo::check(&photo_bytes, rows) else {
-        return Err(anyhow!("the photograph is refused"));
-    };
+    let header = photo::check(&photo_bytes, rows)?;
     let photograph = Photograph::new(&photo_bytes, rows, header);
     let start = Instant::now(&rt)?;
     let columns = gather(heap, &face, &photograph)?;
