@@ -1,5 +1,5 @@
 -- Columns of a face: where their words lie, and how much they can earn. Assumes nothing.
-use Rattle.std.proofs.Common.{◌≡◌, ℕ, zero, suc, refl, map, ◌+◌, ◌*◌, ◌/◌, ◌^◌, ◌<◌, ◌≤◌, Bool, true, ◌&&◌, leb, List, [], ◌∷◌, length, get_or, ℤ, pos, ◌*ℤ◌, ap, ◌∙◌, subst, mul-add, arith}
+use Rattle.std.proofs.Common.{◌≡◌, ℕ, zero, suc, refl, map, ◌+◌, ◌*◌, ◌/◌, ◌^◌, ◌<◌, ◌≤◌, Bool, true, ◌&&◌, leb, List, [], ◌∷◌, length, get_or, ℤ, pos, ◌+ℤ◌, ◌*ℤ◌, w64, SFits, to_z, of_z, ap, ◌∙◌, subst, mul-add, arith}
 use lib.Bits.{bit_and}
 use lib.Count.{ones}
 use Rattle.std.proofs.lemmas.Nat.{mul-add-lt, and_le_l, ones-le}
@@ -13,14 +13,16 @@ use Rattle.face.specs.Fields.{count, levels, height, gamma, beta, box_width, col
 use Rattle.face.specs.Laid.{FaceLaid, column_word}
 use Rattle.face.proofs.Columns.{columns_few, columns_more, columns_mono, starts_mono}
 use Rattle.matching.specs.Column.{gain}
-use Rattle.matching.specs.Counts.{sum, count_of}
-use Rattle.matching.specs.Printed.{Image, rows, ink, value_of, free_rows, column_pixel, column_over_black}
+use Rattle.matching.specs.Counts.{sum, sum_signed, count_of}
+use Rattle.matching.specs.Printed.{Image, rows, base, black_count, ink, value_of, free_rows, column_pixel, column_over_black}
 use Rattle.matching.specs.Words.{word_of}
 use Rattle.matching.proofs.Column.{column_value_within}
+use Rattle.matching.proofs.Lawful.{base_within}
 use Rattle.matching.proofs.Ranges.{Within, within_more, gain_within, sum_within, sum_most}
 use Rattle.matching.proofs.Rows.{count_le}
 use Rattle.matching.proofs.Sums.{sum_signed_same, times_within}
 use Rattle.matching.proofs.Words.{matched, ones_counted}
+use Rattle.printed.proofs.Adding.{total}
 use Rattle.printed.specs.Tabulated.{template_of, face_templates}
 use Rattle.printed.specs.Tables.{weights_of, values_of, column_gain, strip_words, strip_pixels, strip_worth, strip_values, face_values}
 
@@ -115,7 +117,24 @@ module _ (face : List ℕ) where
       gain_is image s low =
           sum_signed_same (levels face) _ _ (λ l h. ap (λ k. gamma face l *ℤ pos k) (matched (column_word face column l) (height face) s (rows face) image (below l h) (omega arith)))
 
-    -- what a column of a box earns over a column of an image
+    -- how large a value can be
+    pub value_small : (column black : ℕ) → black ≤ 36 → Within 144000 (value_of face column black)
+    unfolding value_of
+    value_small column black h =
+        within_more (levels face * (1000 * 36)) 144000 _ (omega (arith, laid.levelled.1))
+        (column_value_within (gamma face) (ink face column) (free_rows face column) 1000 36 (levels face) black (λ l p. (laid.levels_laid l p).over_black) h)
+
+    -- what a template earns with what its columns do
+    module _ (t : ℕ) (known : t < count face) (f : ℕ → ℤ) (small : (c : ℕ) → c < box_width face t → Within 144000 (f c)) where
+      pub box_total : (a z : ℤ) → a ≡ base face t → z ≡ sum_signed (box_width face t) f → SFits w64 (to_z w64 (of_z w64 a) +ℤ to_z w64 (of_z w64 z)) × (to_z w64 (of_z w64 (to_z w64 (of_z w64 a) +ℤ to_z w64 (of_z w64 z))) ≡ base face t +ℤ sum_signed (box_width face t) f)
+      box_total a z p q =
+          total 1034000 (box_width face t * 144000) a z (base face t) (sum_signed (box_width face t) f) p q (base_within face laid t known) (sum_within (box_width face t) 144000 f small)
+          (omega (arith, (laid.templates_laid t known).boxed))
+
+    -- what a column of a box can earn over a column of an image, and what it does earn a column of an image
+    pub can_small : (image : Image) (x t c : ℕ) → Within 144000 (value_of face (columns_before face t + c) (black_count face image (x + c)))
+    can_small image x t c = value_small (columns_before face t + c) (black_count face image (x + c)) (omega (arith, count_le (rows face) (image (x + c)), laid.high.1))
+
     module _ (t : ℕ) (known : t < count face) (image : Image) (x s c : ℕ) (within : c < box_width face t) (low : s ≤ 4) where
       there : columns_before face t + c < all
       there = omega (arith, box_there t known)
@@ -123,14 +142,8 @@ module _ (face : List ℕ) where
       pub over_is : column_gain face (columns_before face t + c) (word_of (rows face) (image (x + c)) / 2 ^ s) ≡ gain (gamma face) (levels face) (column_over_black face image x t s c)
       over_is = gain_is (columns_before face t + c) there (image (x + c)) s low
 
-      pub over_small : Within 128000 (gain (gamma face) (levels face) (column_over_black face image x t s c))
-      over_small = subst (Within 128000) over_is (gain_small (columns_before face t + c) there (word_of (rows face) (image (x + c)) / 2 ^ s))
-
-    pub value_small : (column black : ℕ) → black ≤ 36 → Within 144000 (value_of face column black)
-    unfolding value_of
-    value_small column black h =
-        within_more (levels face * (1000 * 36)) 144000 _ (omega (arith, laid.levelled.1))
-        (column_value_within (gamma face) (ink face column) (free_rows face column) 1000 36 (levels face) black (λ l p. (laid.levels_laid l p).over_black) h)
+      pub over_small : Within 144000 (gain (gamma face) (levels face) (column_over_black face image x t s c))
+      over_small = within_more 128000 144000 _ (omega arith) (subst (Within 128000) over_is (gain_small (columns_before face t + c) there (word_of (rows face) (image (x + c)) / 2 ^ s)))
 
     -- how many pixels a level has in some columns, and what they are worth
     module _ (first width : ℕ) (there : first + width ≤ all) where

@@ -2,12 +2,16 @@
 use Rattle.std.proofs.Common.{◌≡◌, ℕ, zero, suc, ◌+◌, ◌*◌, ◌^◌, ◌<◌, ◌≤◌, List, [], ◌∷◌, ◌++◌, map, length, take, Option, ℤ, pos, ◌+ℤ◌, sym, refl, ap, ◌∙◌, subst, arith, length-append, w64, SFits}
 use mathlib.Core.List.{map-id}
 use Rattle.std.proofs.Math.Seq.{take-append_seam}
-use Rattle.std.proofs.iter.Yields.{gives_along, gives_Drains}
+use Rattle.std.proofs.iter.Yields.{nat_range_steps, gives_along, gives_Drains}
 use Rattle.std.proofs.lemmas.Nat.{mul-le}
-use Rattle.std.proofs.lemmas.Iterator.{YieldsList}
+use Rattle.std.proofs.lemmas.Iterator.{YieldsList, YieldsList-from_map, YieldsList-from_range, maps}
 use Rattle.std.proofs.lemmas.Iterator.Consumers.{sum_from_yields_List, fits_from_yields_list}
 use Rattle.std.proofs.lemmas.List.FromFn.{length-map-range_with_len, take-map-range_with_len, map-range_with_len_more}
 use Rattle.std.proofs.lemmas.List.Sums.{fold_push, sum_by_push}
+use denote.Param.Members.{Mut, Called}
+use Rattle.std.specs.Iterator.Adapters.{map_source, map_callee}
+use Rattle.std.specs.declared.iter.Map.{Map}
+use Rattle.std.specs.declared.ops.Range.{Range}
 use Rattle.std.specs.Bool.{⊤}
 use Rattle.std.specs.Iterator.{Drains, Yields}
 use Rattle.std.specs.Iterator.Runs.{EachRunFrom, YieldsRun}
@@ -38,14 +42,34 @@ front f n seen rest e =
     let few : length seen ≤ n = omega (arith, ap length all, length-append seen rest, length-map-range_with_len f 0 n) in
     (few, sym (take-append_seam seen rest) ∙ ap (take (length seen)) (sym all) ∙ take-map-range_with_len f 0 n (length seen) few)
 
+-- what the chain yields, from a source and a closure that computes f
+module _ {F B : Type 0} (g : Mut F (ℕ × Unit {0}) B) (f : ℕ → B) (n : ℕ) {m : ℕ} {s : Map (Range ℕ) F} {p : F} (source : map_source s ≡ record { start = 0; end = m }) (wide : m ≡ n) (closure : map_callee s ≡ p) (calls : (x : ℕ) (r : B) (q : F) → Called g p (x, tt) r q → (q ≡ p) × (r ≡ f x)) where
+  pub mapped : YieldsList (maps nat_range_steps g) (λ r. r) s (map f (range_with_len 0 n))
+  mapped = YieldsList-from_map g f (YieldsList-from_range 0 m n source (omega arith)) closure calls
+
 module _ {S : Type 0} {steps : S → Option ℕ → S → Type 0} (f : ℕ → ℕ) (n : ℕ) (s : S) (road : YieldsList steps (λ x. x) s (map f (range_with_len 0 n))) where
-  pub summed : (r : ℕ) → ((xs : List ℕ) × (⊤ → Drains steps s xs) × (r ≡ fold (λ a x. a + x) 0 xs)) → r ≡ sum n f
-  summed r d = sum_from_yields_List s r d road ∙ sum_over f n
+  pub road_summed : (r : ℕ) → ((xs : List ℕ) × (⊤ → Drains steps s xs) × (r ≡ fold (λ a x. a + x) 0 xs)) → r ≡ sum n f
+  road_summed r d = sum_from_yields_List s r d road ∙ sum_over f n
 
-  pub sum_fits : (b top : ℕ) → ((i : ℕ) → i < n → f i ≤ b) → n * b < top → EachRunFrom steps s (λ p. fold (λ a x. a + x) 0 p.items < top)
-  sum_fits b top few h = fits_from_yields_list s top road (omega (arith, sum_over f n, sum_most n b f few))
+  pub road_fits : (b top : ℕ) → ((i : ℕ) → i < n → f i ≤ b) → n * b < top → EachRunFrom steps s (λ p. fold (λ a x. a + x) 0 p.items < top)
+  road_fits b top few h = fits_from_yields_list s top road (omega (arith, sum_over f n, sum_most n b f few))
 
-module _ {S : Type 0} {steps : S → Option ℤ → S → Type 0} (f : ℕ → ℤ) (n : ℕ) (s : S) (road : YieldsList steps (λ x. x) s (map f (range_with_len 0 n))) where
+-- sums of numbers
+module _ {F : Type 0} (g : Mut F (ℕ × Unit {0}) ℕ) (f : ℕ → ℕ) (n : ℕ) {m : ℕ} {s : Map (Range ℕ) F} {p : F} (source : map_source s ≡ record { start = 0; end = m }) (wide : m ≡ n) (closure : map_callee s ≡ p) (calls : (x r : ℕ) (q : F) → Called g p (x, tt) r q → (q ≡ p) × (r ≡ f x)) where
+  pub summed : (r : ℕ) → ((xs : List ℕ) × (⊤ → Drains (maps nat_range_steps g) s xs) × (r ≡ fold (λ a x. a + x) 0 xs)) → r ≡ sum n f
+  summed = road_summed f n s (mapped g f n source wide closure calls)
+
+  pub sum_fits : (b top : ℕ) → ((i : ℕ) → i < n → f i ≤ b) → n * b < top → EachRunFrom (maps nat_range_steps g) s (λ p. fold (λ a x. a + x) 0 p.items < top)
+  sum_fits = road_fits f n s (mapped g f n source wide closure calls)
+
+-- sums of signed numbers
+module _ {F : Type 0} (g : Mut F (ℕ × Unit {0}) ℤ) (f : ℕ → ℤ) (n : ℕ) {m : ℕ} {s : Map (Range ℕ) F} {p : F} (source : map_source s ≡ record { start = 0; end = m }) (wide : m ≡ n) (closure : map_callee s ≡ p) (calls : (x : ℕ) (r : ℤ) (q : F) → Called g p (x, tt) r q → (q ≡ p) × (r ≡ f x)) where
+  abbrev steps : Map (Range ℕ) F → Option ℤ → Map (Range ℕ) F → Type 0
+  steps = maps nat_range_steps g
+
+  road : YieldsList steps (λ r. r) s (map f (range_with_len 0 n))
+  road = mapped g f n source wide closure calls
+
   pub signed_summed : (r : ℤ) → ((xs : List ℤ) × (⊤ → Drains steps s xs) × (r ≡ fold ◌+ℤ◌ (pos 0) xs)) → r ≡ sum_signed n f
   signed_summed r d = d.2 ∙ ap (fold ◌+ℤ◌ (pos 0)) (sym (map-id d.0) ∙ gives_Drains steps (λ x. x) d.0 (map f (range_with_len 0 n)) s road.runs (d.1 tt)) ∙ signed_over f n
 
@@ -58,9 +82,6 @@ module _ {S : Type 0} {steps : S → Option ℤ → S → Type 0} (f : ℕ → �
       let k : ℕ = length seen in
       let value : fold ◌+ℤ◌ (pos 0) seen ≡ sum_signed k f = ap (fold ◌+ℤ◌ (pos 0)) at_front.1 ∙ signed_over f k in
       let within : Within (k * b) (sum_signed k f) = sum_within k b f (λ i l. small i (omega (arith, at_front.0))) in
-      let size : k * b ≤ top * b = mul_le_mul k top b (omega (arith, at_front.0)) in
+      let size : k * b ≤ top * b = mul-le k b top b (omega (arith, at_front.0)) (omega arith) in
       subst (SFits w64) (sym value) (fits_within (k * b) (sum_signed k f) (omega arith) within))
       p.items p.gave.0.0 (subst (λ u. Yields steps u p.items p.gave.0.0) at p.gave.0.1)
-    where
-      mul_le_mul : (k top b : ℕ) → k ≤ top → k * b ≤ top * b
-      mul_le_mul k top b l = omega (arith, mul-le k b top b l (omega arith))

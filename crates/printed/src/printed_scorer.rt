@@ -19,6 +19,7 @@ use super::best::Best;
 use super::image::{Column, Columns};
 use super::strip::{Strip, Weighed};
 use super::tables::{Tables, Template};
+use super::values::Values;
 use face::Face;
 use photo::Photograph;
 use scorer::{PlacedScorer, Scorer};
@@ -31,7 +32,7 @@ pub struct Printed<'f, 'p, 'c, 't> {
     columns: &'c [Column],
     weights: &'t [i16],
     templates: &'t [Template],
-    values: &'t [[i64; 37]],
+    values: &'t [Values],
     ghost gathered: { columns.now ≡ image_columns (image_of photo) (rows face.bytes.now) (width_of photo) },
     ghost weighed: { weights.now ≡ weights_of face.bytes.now },
     ghost listed: { templates.now ≡ face_templates face.bytes.now },

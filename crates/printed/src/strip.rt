@@ -7,7 +7,7 @@ ghost use Rattle.matching.specs.Printed.{ink};
 ghost use Rattle.printed.specs.Tables.{weights_of, values_of, column_gain, strip_words, strip_pixels, strip_worth, strip_values};
 
 use super::image::ones_in;
-use super::values::{Level, earned};
+use super::values::{Level, Values, earned};
 use face::Face;
 use octets::u32_at;
 use std::alloc::{AllocError, Global};
@@ -20,7 +20,8 @@ pub(crate) struct Weighed<'f, 'w> {
     ghost weighed: { weights.now ≡ weights_of face.bytes.now },
 }
 
-// Columns of a face that follow each other: the words of each, one for each level.
+// Columns of a face that follow each other: the words of each, one for each level. The width stands beside the words, since
+// these are the bytes of the face's file: chunks of them would still have to be made into numbers, and give no plainer form.
 #[derive(Clone, Copy)]
 pub(crate) struct Strip<'f, 'w> {
     pub(crate) weighed: Weighed<'f, 'w>,
@@ -108,13 +109,14 @@ impl<'f, 'w> Strip<'f, 'w> {
     }
 
     // What a column can earn at most, for each number of black pixels under it.
-    pub(crate) fn values(&self, c: usize) -> [i64; 37]
+    pub(crate) fn values(&self, c: usize) -> Values
         requires { c < self.now.width }
-        ensures { result ≡ values_of self.entry.now.weighed.face.bytes.now (self.entry.now.first + c) }
+        ensures { result ≡ values_of self.now.weighed.face.bytes.now (self.now.first + c) }
     {
         let rows = self.weighed.face.height() + 4;
         let mut room = rows.saturating_sub(self.column_ink(c));
         let mut table = [0; 37];
+        // A loop: a fold over both the table and the room would need a struct of its own, and is no plainer.
         for (l, weight) in self.weighed.weights.iter().enumerate() {
             let level = Level {
                 weight: *weight,
@@ -129,7 +131,7 @@ impl<'f, 'w> Strip<'f, 'w> {
     }
 
     // What each column can earn at most.
-    pub(crate) fn list_values(&self, heap: Global) -> Result<Vec<[i64; 37]>, AllocError>
+    pub(crate) fn list_values(&self, heap: Global) -> Result<Vec<Values>, AllocError>
         ensures { IfOk result (λ v. v.items ≡ strip_values self.now.weighed.face.bytes.now self.now.first self.now.width) }
     {
         (0..self.width)

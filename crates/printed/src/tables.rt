@@ -1,10 +1,11 @@
 // What is worked out once for a face: what each template earns wherever it stands, and what each of its columns can earn.
 ghost use Rattle.std.specs.Prelude.{◌≡◌, ◌<◌, IfOk};
 ghost use Rattle.face.specs.Fields.{count, columns_before};
-ghost use Rattle.printed.specs.Tables.{weights_of};
+ghost use Rattle.printed.specs.Tables.{weights_of, face_values};
 ghost use Rattle.printed.specs.Tabulated.{template_of, face_templates, Tabulated};
 
 use super::strip::Weighed;
+use super::values::Values;
 use face::Face;
 use std::alloc::{AllocError, Global};
 
@@ -24,7 +25,7 @@ pub struct Template {
 pub struct Tables {
     pub(crate) weights: Vec<i16>,
     pub(crate) templates: Vec<Template>,
-    pub(crate) values: Vec<[i64; 37]>,
+    pub(crate) values: Vec<Values>,
 }
 
 // What a pixel of each level earns over black.
@@ -59,12 +60,29 @@ impl<'f, 'w> Weighed<'f, 'w> {
         let count = self.face.count();
         let mut templates = Vec::with_capacity(heap, count)?;
         let mut first = 0;
+        // A loop: `scan` over the first column, and a second chain to stop where memory is wanting, are no plainer.
         for t in 0..count {
             let template = self.template(t, first);
             templates.push(template)?;
             first += template.width;
         }
         Ok(templates)
+    }
+
+    // How many columns the boxes of all templates have.
+    fn columns(&self, templates: &[Template]) -> usize
+        requires { templates.now ≡ face_templates self.now.face.bytes.now }
+        ensures { result ≡ columns_before self.now.face.bytes.now (count self.now.face.bytes.now) }
+    {
+        templates.iter().map(|template| template.width).sum()
+    }
+
+    // What each column of the face can earn, for each number of black pixels under it.
+    fn list_values(&self, heap: Global, templates: &[Template]) -> Result<Vec<Values>, AllocError>
+        requires { templates.now ≡ face_templates self.now.face.bytes.now }
+        ensures { IfOk result (λ v. v.items ≡ face_values self.now.face.bytes.now) }
+    {
+        self.strip(0, self.columns(templates)).list_values(heap)
     }
 }
 
@@ -78,8 +96,7 @@ pub fn tabulate(heap: Global, face: &Face) -> Result<Tables, AllocError>
         weights: &weights,
     };
     let templates = weighed.list_templates(heap)?;
-    let columns = templates.iter().map(|template| template.width).sum();
-    let values = weighed.strip(0, columns).list_values(heap)?;
+    let values = weighed.list_values(heap, &templates)?;
     Ok(Tables {
         weights,
         templates,

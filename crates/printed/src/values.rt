@@ -5,6 +5,9 @@ ghost use Rattle.printed.specs.Values.{with_level, best_with_level, laid_on, Sma
 
 use std::array;
 
+// What a column can earn, for each number of black pixels from 0 to 36.
+pub(crate) type Values = [i64; 37];
+
 // A level of a box column: what a pixel earns over black, how many it has, how many rows are not its own, and what the
 // levels before it can earn.
 #[derive(Clone, Copy)]
@@ -12,7 +15,7 @@ pub(crate) struct Level<'v> {
     pub(crate) weight: i16,
     pub(crate) count: usize,
     pub(crate) room: usize,
-    pub(crate) before: &'v [i64; 37],
+    pub(crate) before: &'v Values,
     ghost small: { Small before.now },
 }
 
@@ -48,7 +51,7 @@ impl<'v> Level<'v> {
     }
 
     // What the level and those before it can earn, for each number of black pixels.
-    pub(crate) fn lay(&self) -> [i64; 37]
+    pub(crate) fn lay(&self) -> Values
         ensures { result ≡ laid_on self.now.before.now self.now.weight self.now.count self.now.room }
     {
         array::from_fn(|black| self.best_with(black))

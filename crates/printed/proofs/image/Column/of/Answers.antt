@@ -1,6 +1,5 @@
-use Rattle.std.proofs.Common.{◌≡◌, ◌*◌, ◌%◌, ◌^◌, ap, ◌∙◌, arith, rules}
+use Rattle.std.proofs.Common.{refl, ◌≡◌, ◌*◌, ◌%◌, ◌^◌, ap, ◌∙◌, arith, rules}
 use lib.Count.{ones}
-use Rattle.std.proofs.lemmas.Iterator.{YieldsList-from_map, YieldsList-from_range}
 use Rattle.matching.specs.Counts.{one_if}
 use Rattle.matching.specs.Words.{word_of}
 use Rattle.matching.proofs.Words.{word_ones}
@@ -13,7 +12,7 @@ pub sum-word-requires-clause-fits : goal.sum-word-requires-clause-fits
 sum-word-requires-clause-fits c =
     let p = image_of c.args.photo.now c.args.x in
     let n = c.args.rows in
-    sum_fits (λ y. one_if (p y) * 2 ^ y % 2 ^ 64) n _ (YieldsList-from_map _ _ (YieldsList-from_range 0 n n c.map.ensures.source (omega arith)) c.map.ensures.closure (λ x r q k. search rules))
+    sum_fits _ (λ y. one_if (p y) * 2 ^ y % 2 ^ 64) n c.map.ensures.source refl c.map.ensures.closure (λ x r q k. search rules)
     (2 ^ 36) (2 ^ 64) (λ y h. row_small (p y) y (omega arith)) (omega arith)
 
 pub returns : goal.returns
@@ -21,7 +20,7 @@ returns c =
     let p = image_of c.args.photo.now c.args.x in
     let n = c.args.rows in
     let word : c.sum-word.result ≡ word_of n p =
-    summed (λ y. one_if (p y) * 2 ^ y % 2 ^ 64) n _ (YieldsList-from_map _ _ (YieldsList-from_range 0 n n c.map.ensures.source (omega arith)) c.map.ensures.closure (λ x r q k. search rules)) c.sum-word.result c.sum-word.ensures.ran
+    summed _ (λ y. one_if (p y) * 2 ^ y % 2 ^ 64) n c.map.ensures.source refl c.map.ensures.closure (λ x r q k. search rules) c.sum-word.result c.sum-word.ensures.ran
     ∙ row_sum n p (omega arith) in
     let black = c.ones_in.ensures.value ∙ ap ones word ∙ word_ones n p in
     λ i. record { word = word i; black = black i }

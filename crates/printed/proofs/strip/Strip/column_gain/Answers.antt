@@ -2,7 +2,6 @@ use Rattle.std.proofs.Common.{◌+◌, pos, ◌*ℤ◌, ◌∙◌, arith, w64, S
 use lib.Bits.{bit_and}
 use lib.Count.{ones}
 use Rattle.std.proofs.lemmas.Int.{to_z-of_z}
-use Rattle.std.proofs.lemmas.Iterator.{YieldsList-from_map, YieldsList-from_range}
 use Rattle.face.specs.Fields.{levels, gamma}
 use Rattle.face.specs.Laid.{column_word}
 use Rattle.face.proofs.Exact.{laid_from_is_ok}
@@ -16,7 +15,7 @@ sum-requires-clause-fits c =
     let face = self.weighed.face.bytes.now in
     let laid = laid_from_is_ok face self.weighed.face.lawful in
     let column = self.first + c.args.c in
-    signed_fits (λ l. gamma face l *ℤ pos (ones (bit_and (column_word face column l) c.args.column))) (levels face) _ (YieldsList-from_map _ _ (YieldsList-from_range 0 _ (levels face) c.map.ensures.source (omega (arith, c.levels.ensures.value))) c.map.ensures.closure (λ x r q k. search rules))
+    signed_fits _ (λ l. gamma face l *ℤ pos (ones (bit_and (column_word face column l) c.args.column))) (levels face) c.map.ensures.source c.levels.ensures.value c.map.ensures.closure (λ x r q k. search rules)
     32000 4 (level_small face laid column (omega (arith, self.there)) c.args.column) laid.levelled.1 (omega arith)
 
 pub returns : goal.returns
@@ -26,4 +25,4 @@ returns c =
     let column = self.first + c.args.c in
     let fits : SFits w64 c.sum.result = search rules in
     to_z-of_z w64 c.sum.result fits
-    ∙ signed_summed (λ l. gamma face l *ℤ pos (ones (bit_and (column_word face column l) c.args.column))) (levels face) _ (YieldsList-from_map _ _ (YieldsList-from_range 0 _ (levels face) c.map.ensures.source (omega (arith, c.levels.ensures.value))) c.map.ensures.closure (λ x r q k. search rules)) c.sum.result c.sum.ensures.ran
+    ∙ signed_summed _ (λ l. gamma face l *ℤ pos (ones (bit_and (column_word face column l) c.args.column))) (levels face) c.map.ensures.source c.levels.ensures.value c.map.ensures.closure (λ x r q k. search rules) c.sum.result c.sum.ensures.ran

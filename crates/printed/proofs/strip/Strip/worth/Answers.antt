@@ -1,6 +1,5 @@
 use Rattle.std.proofs.Common.{◌^◌, pos, ◌*ℤ◌, ◌∙◌, arith, w64, SFits, rules}
 use Rattle.std.proofs.lemmas.Int.{to_z-of_z}
-use Rattle.std.proofs.lemmas.Iterator.{YieldsList-from_map, YieldsList-from_range}
 use Rattle.face.specs.Fields.{levels, beta}
 use Rattle.face.proofs.Exact.{laid_from_is_ok}
 use Rattle.printed.specs.Tables.{strip_pixels}
@@ -13,7 +12,7 @@ sum-requires-clause-fits c =
     let self = c.args.self.now in
     let face = self.weighed.face.bytes.now in
     let laid = laid_from_is_ok face self.weighed.face.lawful in
-    signed_fits (λ l. beta face l *ℤ pos (strip_pixels face self.first self.width l)) (levels face) _ (YieldsList-from_map _ _ (YieldsList-from_range 0 _ (levels face) c.map.ensures.source (omega (arith, c.levels.ensures.value))) c.map.ensures.closure (λ x r q k. search rules))
+    signed_fits _ (λ l. beta face l *ℤ pos (strip_pixels face self.first self.width l)) (levels face) c.map.ensures.source c.levels.ensures.value c.map.ensures.closure (λ x r q k. search rules)
     (2 ^ 32) 4 (worth_small face laid self.first self.width self.there) laid.levelled.1 (omega arith)
 
 pub returns : goal.returns
@@ -22,4 +21,4 @@ returns c =
     let face = self.weighed.face.bytes.now in
     let fits : SFits w64 c.sum.result = search rules in
     to_z-of_z w64 c.sum.result fits
-    ∙ signed_summed (λ l. beta face l *ℤ pos (strip_pixels face self.first self.width l)) (levels face) _ (YieldsList-from_map _ _ (YieldsList-from_range 0 _ (levels face) c.map.ensures.source (omega (arith, c.levels.ensures.value))) c.map.ensures.closure (λ x r q k. search rules)) c.sum.result c.sum.ensures.ran
+    ∙ signed_summed _ (λ l. beta face l *ℤ pos (strip_pixels face self.first self.width l)) (levels face) c.map.ensures.source c.levels.ensures.value c.map.ensures.closure (λ x r q k. search rules) c.sum.result c.sum.ensures.ran

@@ -1,10 +1,10 @@
 use Rattle.std.proofs.Common.{◌≡◌, ◌+◌, Some, suc, sym, ◌∙◌, arith, w64, SFits, rules}
 use Rattle.std.proofs.lemmas.Int.{to_z-of_z}
-use Rattle.std.proofs.lemmas.Iterator.{YieldsList-from_map, YieldsList-from_range}
 use Rattle.std.proofs.lemmas.Iterator.Consumers.{reduce_from_yields_List}
 use Rattle.matching.specs.Column.{fewest, spread}
 use Rattle.matching.specs.Counts.{greatest}
 use Rattle.printed.specs.Values.{with_level}
+use Rattle.printed.proofs.Summing.{mapped}
 use Rattle.printed.proofs.Choosing.{greater, greatest_over}
 use Rattle.printed.proofs.values.Level.best_with.Goals as goal
 
@@ -15,7 +15,7 @@ returns c =
     let a = c.saturating_sub-fewest.result in
     let n = c.saturating_sub-spread.result in
     let most : Some c.unwrap.result ≡ Some (greatest f a n) = sym c.unwrap.ensures
-    ∙ reduce_from_yields_List greater _ _ c.max.ensures.ran (YieldsList-from_map _ (λ i. f (a + i)) (YieldsList-from_range 0 (n + 1) (suc n) c.map.ensures.source (omega arith)) c.map.ensures.closure (λ x r q k. search rules))
+    ∙ reduce_from_yields_List greater _ _ c.max.ensures.ran (mapped _ (λ i. f (a + i)) (suc n) c.map.ensures.source (omega arith) c.map.ensures.closure (λ x r q k. search rules))
     ∙ greatest_over f a n in
     let value : c.unwrap.result ≡ greatest f a n = cc in
     let fits : SFits w64 c.unwrap.result = search rules in
