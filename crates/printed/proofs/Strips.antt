@@ -107,13 +107,13 @@ module _ (face : List ℕ) where
           let g = (laid.levels_laid l h).over_black in
           within_more (1000 * k) 32000 _ (omega (arith, over_few word l h)) (times_within (gamma face l) 1000 k g.0 g.1)
 
-      pub gain_small : (word : ℕ) → Within 128000 (column_gain face column word)
+      gain_small : (word : ℕ) → Within 128000 (column_gain face column word)
       gain_small word =
           let k : ℕ → ℕ = λ l. ones (bit_and (column_word face column l) word) in
           within_more (1000 * sum (levels face) k) 128000 _ (omega (arith, laid.levelled.1, sum_most (levels face) 32 k (λ l h. over_few word l h)))
           (gain_within (gamma face) 1000 (levels face) k (λ l h. (laid.levels_laid l h).over_black))
 
-      pub gain_is : (image : ℕ → Bool) (s : ℕ) → s ≤ 4 → column_gain face column (word_of (rows face) image / 2 ^ s) ≡ gain (gamma face) (levels face) (λ l. count_of (height face) (λ i. column_pixel face column l i && image (i + s)))
+      gain_is : (image : ℕ → Bool) (s : ℕ) → s ≤ 4 → column_gain face column (word_of (rows face) image / 2 ^ s) ≡ gain (gamma face) (levels face) (λ l. count_of (height face) (λ i. column_pixel face column l i && image (i + s)))
       gain_is image s low =
           sum_signed_same (levels face) _ _ (λ l h. ap (λ k. gamma face l *ℤ pos k) (matched (column_word face column l) (height face) s (rows face) image (below l h) (omega arith)))
 

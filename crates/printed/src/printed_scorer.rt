@@ -187,6 +187,7 @@ impl<'s, 'f, 'p, 'c, 't> Standing<'s, 'f, 'p, 'c, 't> {
             score: self.score(0),
             row: 0,
         };
+        // A fold: `max_by_key` takes the last of equal rows, and the first is wanted.
         (1..5)
             .map(|row| Best {
                 score: self.score(row),

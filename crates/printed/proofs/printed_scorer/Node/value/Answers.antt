@@ -1,8 +1,5 @@
-use Rattle.std.proofs.Common.{◌+◌, ap, ◌∙◌, arith, w64, SFits, rules}
-use Rattle.std.proofs.lemmas.Int.{to_z-of_z}
+use Rattle.std.proofs.Common.{ap, arith}
 use Rattle.face.proofs.Exact.{laid_from_is_ok}
-use Rattle.matching.specs.Printed.{value_of, black_count}
-use Rattle.printed.specs.Gathered.{image_of}
 use Rattle.printed.proofs.Strips.{all_few, box_there}
 use Rattle.printed.proofs.printed_scorer.Node.value.Goals as goal
 
@@ -26,11 +23,3 @@ value_at-requires c =
     let face = self.line.now.face in
     let laid = laid_from_is_ok face.bytes.now face.lawful in
     omega (arith, c.requires, ap (λ p. p.first) self.laid, box_there face.bytes.now laid self.t self.known)
-
-pub returns : goal.returns
-returns c =
-    let self = c.args.self.now in
-    let face = self.line.now.face.bytes.now in
-    let fits : SFits w64 c.value_at.result = search rules in
-    to_z-of_z w64 c.value_at.result fits ∙ c.value_at.ensures
-    ∙ ap (λ p. value_of face (p.first + c.args.c) (black_count face (image_of self.line.now.photo) (self.x + c.args.c))) self.laid
