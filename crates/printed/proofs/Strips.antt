@@ -24,7 +24,7 @@ use Rattle.matching.proofs.Sums.{sum_signed_same, times_within}
 use Rattle.matching.proofs.Words.{matched, ones_counted}
 use Rattle.printed.proofs.Adding.{total}
 use Rattle.printed.specs.Tabulated.{template_of, face_templates}
-use Rattle.printed.specs.Tables.{weights_of, values_of, column_gain, strip_words, strip_pixels, strip_worth, strip_values, face_values}
+use Rattle.printed.specs.Tables.{weights_of, column_gain, strip_words, strip_pixels, strip_worth}
 
 module _ (face : List ℕ) where
   pub weights_length : length (weights_of face) ≡ levels face
@@ -45,13 +45,6 @@ module _ (face : List ℕ) where
   unfolding sum columns_before
   widths_sum zero = refl
   widths_sum (suc n) = ap (λ q. q + box_width face n) (widths_sum n)
-
-  -- all columns are those from column 0 on
-  pub from_first : strip_values face 0 (columns_before face (count face)) ≡ face_values face
-  from_first = ap (λ f. map f (range_with_len 0 (columns_before face (count face)))) (λ i c. values_of face (zero_add c i))
-    where
-      zero_add : (c : ℕ) → 0 + c ≡ c
-      zero_add c = omega arith
 
   module _ (laid : FaceLaid face) where
     abbrev all : ℕ
