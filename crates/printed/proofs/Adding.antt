@@ -1,21 +1,20 @@
--- One step of a signed sum: its value, and how large it can grow. Assumes nothing.
-use Rattle.std.proofs.Common.{◌≡◌, ℕ, ◌+◌, ◌^◌, ◌<◌, ◌≤◌, ℤ, ◌+ℤ◌, sym, ◌∙◌, subst, arith, w64, SFits, to_z, of_z}
+-- A sum of two signed values, and when it fits. Assumes nothing.
+use Rattle.std.proofs.Common.{◌≡◌, ℕ, ◌+◌, ◌^◌, ◌<◌, ℤ, ◌+ℤ◌, sym, ap, ◌∙◌, subst, arith, w64, SFits, to_z, of_z}
 use Rattle.std.proofs.lemmas.Int.{ints, to_z-of_z}
-use Rattle.matching.proofs.Ranges.{Within, within_add, within_more}
+use Rattle.matching.proofs.Ranges.{Within, within_add}
 
 pub fits_within : (k : ℕ) (z : ℤ) → k < 2 ^ 63 → Within k z → SFits w64 z
 fits_within k z h w = omega (arith, ints, w.0, w.1)
 
-pub added : (m n k : ℕ) (a b x y z : ℤ) → a ≡ x → b ≡ y → x +ℤ y ≡ z → Within m a → Within n b → m + n ≤ k → k < 2 ^ 63 → (to_z w64 (of_z w64 (a +ℤ to_z w64 (of_z w64 b))) ≡ z) × Within k (to_z w64 (of_z w64 (a +ℤ to_z w64 (of_z w64 b))))
-added m n k a b x y z p q r v w few small =
-    let inner : to_z w64 (of_z w64 b) ≡ b = to_z-of_z w64 b (fits_within n b (omega arith) w) in
-    let both : Within k (a +ℤ b) = within_more (m + n) k (a +ℤ b) few (within_add m n a b v w) in
-    let outer : to_z w64 (of_z w64 (a +ℤ b)) ≡ a +ℤ b = to_z-of_z w64 (a +ℤ b) (fits_within k (a +ℤ b) small both) in
-    let all : to_z w64 (of_z w64 (a +ℤ to_z w64 (of_z w64 b))) ≡ a +ℤ b = (λ i. to_z w64 (of_z w64 (a +ℤ inner i))) ∙ outer in
-    (all ∙ (λ i. p i +ℤ q i) ∙ r, subst (Within k) (sym all) both)
+-- a value that is handed on
+pub held : (k : ℕ) (a x : ℤ) → a ≡ x → Within k x → k < 2 ^ 63 → to_z w64 (of_z w64 a) ≡ x
+held k a x p v h = ap (λ z. to_z w64 (of_z w64 z)) p ∙ to_z-of_z w64 x (fits_within k x h v)
 
--- a signed value that is handed on
-pub handed : (k : ℕ) (z v : ℤ) → z ≡ v → Within k z → k < 2 ^ 63 → (to_z w64 (of_z w64 z) ≡ v) × Within k (to_z w64 (of_z w64 z))
-handed k z v e w h =
-    let same : to_z w64 (of_z w64 z) ≡ z = to_z-of_z w64 z (fits_within k z h w) in
-    (same ∙ e, subst (Within k) (sym same) w)
+-- the sum fits, and is that of the values
+pub total : (m n : ℕ) (a b x y : ℤ) → a ≡ x → b ≡ y → Within m x → Within n y → m + n < 2 ^ 63 → SFits w64 (to_z w64 (of_z w64 a) +ℤ to_z w64 (of_z w64 b)) × (to_z w64 (of_z w64 (to_z w64 (of_z w64 a) +ℤ to_z w64 (of_z w64 b))) ≡ x +ℤ y)
+total m n a b x y p q v w few =
+    let first : to_z w64 (of_z w64 a) ≡ x = held m a x p v (omega arith) in
+    let second : to_z w64 (of_z w64 b) ≡ y = held n b y q w (omega arith) in
+    let sum : to_z w64 (of_z w64 a) +ℤ to_z w64 (of_z w64 b) ≡ x +ℤ y = λ i. first i +ℤ second i in
+    let fits : SFits w64 (x +ℤ y) = fits_within (m + n) (x +ℤ y) few (within_add m n x y v w) in
+    (subst (SFits w64) (sym sum) fits, ap (λ z. to_z w64 (of_z w64 z)) sum ∙ to_z-of_z w64 (x +ℤ y) fits)

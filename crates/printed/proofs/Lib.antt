@@ -1,8 +1,6 @@
 pub mod Adding
-pub mod Whites
-pub mod Laying
-pub mod Pushing
-pub mod Ties
-pub mod Rivals
-pub mod Standing
-pub mod Valued
+pub mod Summing
+pub mod Choosing
+pub mod Entries
+pub mod Gathering
+pub mod Strips

@@ -1,5 +1,5 @@
 pub mod Values
-pub mod Glyph
+pub mod Columns
 pub mod Tables
 pub mod Gathered
 pub mod Tabulated

@@ -1,28 +1,39 @@
--- What is gathered of a face and of an image before any question. Assumes nothing.
-use Rattle.std.specs.Prelude.{◌≡◌, ℕ, ◌+◌, List, map, ℤ}
+-- What is worked out of a face before any question. Assumes nothing.
+use Rattle.std.specs.Prelude.{ℕ, ◌+◌, List, map, ℤ, pos, ◌*ℤ◌, bit_and, count_ones}
 use Rattle.std.specs.List.{range_with_len, between}
-use Rattle.face.specs.Fields.{levels, gamma, box_width, columns_before, column_start}
-use Rattle.matching.specs.Counts.{count_of}
-use Rattle.matching.specs.Printed.{Image}
-use Rattle.matching.specs.Words.{word_of}
+use Rattle.face.specs.Fields.{count, levels, gamma, beta, columns_before, column_start}
+use Rattle.face.specs.Laid.{column_word}
+use Rattle.matching.specs.Column.{gain}
+use Rattle.matching.specs.Counts.{sum, sum_signed}
+use Rattle.matching.specs.Printed.{ink, value_of}
+use Rattle.printed.specs.Values.{table_of}
 
--- what a pixel of each level earns over black
-abbrev pub weights_of : List ℕ → List ℤ
-weights_of face = map (gamma face) (range_with_len 0 (levels face))
+module _ (face : List ℕ) where
+  -- what a pixel of each level earns over black
+  abbrev pub weights_of : List ℤ
+  weights_of = map (gamma face) (range_with_len 0 (levels face))
 
--- the columns of template t, as they lie in the face's own bytes
-abbrev pub box_words : List ℕ → ℕ → List ℕ
-box_words face t = between (column_start face (columns_before face t)) (column_start face (columns_before face t + box_width face t)) face
+  -- what a column can earn, for each number of black pixels
+  abbrev pub values_of : ℕ → List ℤ
+  values_of column = table_of (value_of face column)
 
--- the words and weights of the box of template t, with its width
-pub record Boxed (face : List ℕ) (t : ℕ) (words : List ℕ) (weights : List ℤ) (width : ℕ) : Type 0 where
-  pub words_are : words ≡ box_words face t
-  pub weights_are : weights ≡ weights_of face
-  pub width_is : width ≡ box_width face t
+  abbrev pub strip_values : ℕ → ℕ → List (List ℤ)
+  strip_values first width = map (λ c. values_of (first + c)) (range_with_len 0 width)
 
--- the columns of an image, each as a word, and how many of its pixels are black
-abbrev pub image_words : Image → ℕ → ℕ → List ℕ
-image_words image rows width = map (λ x. word_of rows (image x)) (range_with_len 0 width)
+  abbrev pub face_values : List (List ℤ)
+  face_values = map values_of (range_with_len 0 (columns_before face (count face)))
 
-abbrev pub image_blacks : Image → ℕ → ℕ → List ℕ
-image_blacks image rows width = map (λ x. count_of rows (image x)) (range_with_len 0 width)
+  -- what a column earns over a word of the image
+  abbrev pub column_gain : ℕ → ℕ → ℤ
+  column_gain column word = gain (gamma face) (levels face) (λ l. count_ones (bit_and (column_word face column l) word))
+
+  -- the columns from `first` on, so many: as they lie in the face's own bytes, how many pixels a level has there, and what
+  -- the pixels earn wherever they lie
+  abbrev pub strip_words : ℕ → ℕ → List ℕ
+  strip_words first width = between (column_start face first) (column_start face (first + width)) face
+
+  abbrev pub strip_pixels : ℕ → ℕ → ℕ → ℕ
+  strip_pixels first width l = sum width (λ c. ink face (first + c) l)
+
+  abbrev pub strip_worth : ℕ → ℕ → ℤ
+  strip_worth first width = sum_signed (levels face) (λ l. beta face l *ℤ pos (strip_pixels first width l))

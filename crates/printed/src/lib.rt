@@ -2,9 +2,9 @@
 #![tactic(auto)]
 
 mod best;
-mod glyph;
 mod image;
 mod printed_scorer;
+mod strip;
 mod tables;
 mod values;
 

@@ -1,24 +1,25 @@
 // The scorer of a face and a photograph.
-ghost use Rattle.std.specs.Prelude.{◌≡◌, ◌+◌, ◌*◌, ◌<◌, ◌≤◌, map, length, IfSome, nat_lt};
-ghost use Rattle.std.specs.List.{range_with_len};
+ghost use Rattle.std.specs.Prelude.{◌≡◌, ◌+◌, ◌<◌, ◌≤◌, IfSome, is_some, nat_lt};
 ghost use Rattle.octets.specs.Absent.{present};
-ghost use Rattle.face.specs.Fields.{count, columns_before};
+ghost use Rattle.face.specs.Fields.{count, levels, gamma, box_width, columns_before};
 ghost use Rattle.matching.proofs.Lawful.{shift_within};
-ghost use Rattle.matching.proofs.Ranges.{Within};
-ghost use Rattle.matching.specs.Printed.{rows, black_count, value_of, bound_score, score_at, shift_of};
+ghost use Rattle.matching.specs.Column.{gain};
+ghost use Rattle.matching.specs.Printed.{rows, black_count, value_of, bound_score, column_over_black, score_at, shift_of};
 ghost use Rattle.scorer.specs.Meaning.{is_node};
-ghost use Rattle.printed.specs.Bests.{best_to, best_of};
+ghost use Rattle.printed.specs.Bests.{best_of};
+ghost use Rattle.printed.specs.Columns.{column_of, image_columns};
 ghost use Rattle.printed.specs.Gathered.{Gathered, image_of, width_of};
 ghost use Rattle.printed.specs.Laws.{PrintedScores};
 ghost use Rattle.printed.specs.Line.{line_lawful};
-ghost use Rattle.printed.specs.Scored.{line_meaning, Valued, Stands};
-ghost use Rattle.printed.specs.Tables.{weights_of, image_words, image_blacks};
-ghost use Rattle.printed.specs.Tabulated.{template_of, Tabulated};
+ghost use Rattle.printed.specs.Scored.{line_meaning};
+ghost use Rattle.printed.specs.Tables.{weights_of, face_values};
+ghost use Rattle.printed.specs.Tabulated.{template_of, face_templates, Tabulated};
 
 use super::best::Best;
-use super::glyph::Glyph;
-use super::image::Columns;
-use super::tables::{Tables, Template, glyph_of, laid};
+use super::image::{Column, Columns};
+use super::strip::{Strip, Weighed};
+use super::tables::{Tables, Template};
+use super::values::Values;
 use face::Face;
 use photo::Photograph;
 use scorer::{PlacedScorer, Scorer};
@@ -28,17 +29,36 @@ use scorer::{PlacedScorer, Scorer};
 pub struct Printed<'f, 'p, 'c, 't> {
     face: Face<'f>,
     photo: Photograph<'p>,
-    words: &'c [u64],
-    blacks: &'c [usize],
+    columns: &'c [Column],
     weights: &'t [i16],
     templates: &'t [Template],
-    values: &'t [i64],
-    ghost gathered: { words.now ≡ image_words (image_of photo) (rows face.bytes.now) (width_of photo) },
-    ghost counted: { blacks.now ≡ image_blacks (image_of photo) (rows face.bytes.now) (width_of photo) },
+    values: &'t [Values],
+    ghost gathered: { columns.now ≡ image_columns (image_of photo) (rows face.bytes.now) (width_of photo) },
     ghost weighed: { weights.now ≡ weights_of face.bytes.now },
-    ghost listed: { templates.now ≡ map (template_of face.bytes.now) (range_with_len 0 (count face.bytes.now)) },
-    ghost long: { length values.now ≡ 37 * columns_before face.bytes.now (count face.bytes.now) },
-    ghost valued: { Valued face.bytes.now values.now },
+    ghost listed: { templates.now ≡ face_templates face.bytes.now },
+    ghost valued: { values.now ≡ face_values face.bytes.now },
+}
+
+// A template that stands at a column of a line.
+#[derive(Clone, Copy)]
+struct Node<'s, 'f, 'p, 'c, 't> {
+    line: &'s Printed<'f, 'p, 'c, 't>,
+    x: usize,
+    t: usize,
+    template: Template,
+    ghost known: { t < count line.now.face.bytes.now },
+    ghost low: { x ≤ 2048 },
+    ghost laid: { template ≡ template_of line.now.face.bytes.now t },
+}
+
+// A node, with the columns of its template's box.
+#[derive(Clone, Copy)]
+struct Standing<'s, 'f, 'p, 'c, 't> {
+    node: Node<'s, 'f, 'p, 'c, 't>,
+    strip: Strip<'f, 't>,
+    ghost faced: { strip.weighed.face ≡ node.line.now.face },
+    ghost begins: { strip.first ≡ node.template.first },
+    ghost wide: { strip.width ≡ node.template.width },
 }
 
 impl<'f, 'p, 'c, 't> Printed<'f, 'p, 'c, 't> {
@@ -58,8 +78,7 @@ impl<'f, 'p, 'c, 't> Printed<'f, 'p, 'c, 't> {
         Printed {
             face,
             photo,
-            words: columns.words.as_slice(),
-            blacks: columns.blacks.as_slice(),
+            columns: columns.columns.as_slice(),
             weights: tables.weights.as_slice(),
             templates: tables.templates.as_slice(),
             values: tables.values.as_slice(),
@@ -70,118 +89,111 @@ impl<'f, 'p, 'c, 't> Printed<'f, 'p, 'c, 't> {
     fn template(&self, t: usize) -> Option<Template>
         ensures { result ≡ present (nat_lt t (count self.now.face.bytes.now)) (template_of self.now.face.bytes.now t) }
     {
-        if t < self.templates.len() {
-            Some(self.templates[t])
-        } else {
-            None
-        }
+        self.templates.get(t).copied()
     }
 
-    // What is known of a node's template.
-    fn node(&self, x: usize, t: usize) -> Option<Template>
-        ensures value { result ≡ present (is_node (line_meaning self.now.face.bytes.now self.now.photo) x t) (template_of self.now.face.bytes.now t) }
-        ensures within { IfSome result (λ p. (t < count self.now.face.bytes.now) × (x ≤ 2048) × (p ≡ template_of self.now.face.bytes.now t)) }
+    // Template `t` at column `x`, if that is a node.
+    fn node(&self, x: usize, t: usize) -> Option<Node<'_, 'f, 'p, 'c, 't>>
+        ensures found { is_some result ≡ is_node (line_meaning self.now.face.bytes.now self.now.photo) x t }
+        ensures node { IfSome result (λ n. (n.line.now ≡ self.now) × (n.x ≡ x) × (n.t ≡ t)) }
     {
         let template = self.template(t)?;
         let width = self.photo.width();
         if x <= width && template.setwidth <= width - x {
-            Some(template)
+            Some(Node {
+                line: self,
+                x,
+                t,
+                template,
+            })
         } else {
             None
         }
     }
 
-    // How many pixels of a column are black; right of the photograph none is.
-    fn black_at(&self, x: usize) -> usize
-        ensures value { result ≡ black_count self.now.face.bytes.now (image_of self.now.photo) x }
-        ensures bound { result ≤ 36 }
+    // Column `x` of the photograph; right of it all are white.
+    fn column(&self, x: usize) -> Column
+        ensures { result ≡ column_of (image_of self.now.photo) (rows self.now.face.bytes.now) x }
     {
-        laid(&self.face);
-        if x < self.blacks.len() {
-            self.blacks[x]
-        } else {
-            0
-        }
+        self.columns.get(x).copied().unwrap_or_default()
     }
 
     // What a column of the face can earn over a column of the photograph.
     fn value_at(&self, column: usize, x: usize) -> i64
         requires { column < columns_before self.now.face.bytes.now (count self.now.face.bytes.now) }
-        ensures value { result ≡ value_of self.now.face.bytes.now column (black_count self.now.face.bytes.now (image_of self.now.photo) x) }
-        ensures range { Within 144000 result }
+        ensures { result ≡ value_of self.now.face.bytes.now column (black_count self.now.face.bytes.now (image_of self.now.photo) x) }
     {
-        laid(&self.face);
-        self.values[column * 37 + self.black_at(x)]
+        self.values[column][self.column(x).black]
+    }
+}
+
+impl<'s, 'f, 'p, 'c, 't> Node<'s, 'f, 'p, 'c, 't> {
+    // What column `c` of the box can earn where it stands.
+    fn value(&self, c: usize) -> i64
+        requires { c < box_width self.now.line.now.face.bytes.now self.now.t }
+        ensures { result ≡ value_of self.now.line.now.face.bytes.now (columns_before self.now.line.now.face.bytes.now self.now.t + c) (black_count self.now.line.now.face.bytes.now (image_of self.now.line.now.photo) (self.now.x + c)) }
+    {
+        self.line.value_at(self.template.first + c, self.x + c)
     }
 
-    // The bound of a node.
-    fn bound_of(&self, template: Template, x: usize, t: usize) -> i64
-        requires { (t < count self.now.face.bytes.now) × ((x ≤ 2048) × (template ≡ template_of self.now.face.bytes.now t)) }
-        ensures { result ≡ bound_score self.now.face.bytes.now (image_of self.now.photo) x t }
+    // The bound of the node.
+    fn bound(&self) -> i64
+        ensures { result ≡ bound_score self.now.line.now.face.bytes.now (image_of self.now.line.now.photo) self.now.x self.now.t }
     {
-        laid(&self.face);
-        let mut bound = template.base;
-        for c in 0..template.width {
-            bound += self.value_at(template.first + c, x + c);
-        }
-        bound
+        let Template { base, width, .. } = self.template;
+        base + (0..width).map(|c| self.value(c)).sum::<i64>()
     }
 
-    // The score of a node with row 0 of its box on row `s` of the photograph.
-    fn score_at(&self, glyph: &Glyph, template: Template, x: usize, t: usize, s: usize) -> i64
-        requires { (Stands self.now.face.bytes.now x t template glyph.now.words.now glyph.now.weights.now glyph.now.width) × (s ≤ 4) }
-        ensures { result ≡ score_at self.now.face.bytes.now (image_of self.now.photo) x t s }
+    // The node with the columns of its template's box.
+    fn stand(self) -> Standing<'s, 'f, 'p, 'c, 't>
+        ensures { result.node ≡ self.entry }
     {
-        laid(&self.face);
-        template.base + glyph.gain_at(self.words, x, s)
-    }
-
-    // The better of two rows: row `s` only where its score is above that of the best row so far.
-    fn better(
-        &self,
-        best: Best,
-        glyph: &Glyph,
-        template: Template,
-        x: usize,
-        t: usize,
-        s: usize,
-    ) -> Best
-        requires { (Stands self.now.face.bytes.now x t template glyph.now.words.now glyph.now.weights.now glyph.now.width) × ((s < 4) × (best ≡ best_to self.now.face.bytes.now (image_of self.now.photo) x t s)) }
-        ensures { result ≡ best_to self.now.face.bytes.now (image_of self.now.photo) x t (s + 1) }
-    {
-        let row = s + 1;
-        let score = self.score_at(glyph, template, x, t, row);
-        if best.score < score {
-            Best { score, row }
-        } else {
-            best
+        let weighed = Weighed {
+            face: self.line.face,
+            weights: self.line.weights,
+        };
+        Standing {
+            node: self,
+            strip: weighed.strip(self.template.first, self.template.width),
         }
     }
+}
 
-    // The highest row that reaches the exact score of a node, and that score.
-    fn best_of(&self, glyph: &Glyph, template: Template, x: usize, t: usize) -> Best
-        requires { Stands self.now.face.bytes.now x t template glyph.now.words.now glyph.now.weights.now glyph.now.width }
-        ensures value { result ≡ best_of self.now.face.bytes.now (image_of self.now.photo) x t }
+impl<'s, 'f, 'p, 'c, 't> Standing<'s, 'f, 'p, 'c, 't> {
+    // What column `c` of the box earns with row 0 of the box on row `s` of the photograph.
+    fn gain(&self, c: usize, s: usize) -> i64
+        requires { (c < box_width self.now.node.line.now.face.bytes.now self.now.node.t) × (s ≤ 4) }
+        ensures { result ≡ gain (gamma self.now.node.line.now.face.bytes.now) (levels self.now.node.line.now.face.bytes.now) (column_over_black self.now.node.line.now.face.bytes.now (image_of self.now.node.line.now.photo) self.now.node.x self.now.node.t s c) }
+    {
+        let column = self.node.line.column(self.node.x + c);
+        self.strip.column_gain(c, column.word >> s)
+    }
+
+    // The score of the node with row 0 of its box on row `s` of the photograph.
+    fn score(&self, s: usize) -> i64
+        requires { s ≤ 4 }
+        ensures { result ≡ score_at self.now.node.line.now.face.bytes.now (image_of self.now.node.line.now.photo) self.now.node.x self.now.node.t s }
+    {
+        let Template { base, width, .. } = self.node.template;
+        base + (0..width).map(|c| self.gain(c, s)).sum::<i64>()
+    }
+
+    // The highest row that reaches the exact score of the node, and that score.
+    fn best(&self) -> Best
+        ensures value { result ≡ best_of self.now.node.line.now.face.bytes.now (image_of self.now.node.line.now.photo) self.now.node.x self.now.node.t }
         ensures within { result.row ≤ 4 }
     {
-        let mut best = Best {
-            score: self.score_at(glyph, template, x, t, 0),
+        let top = Best {
+            score: self.score(0),
             row: 0,
         };
-        for s in 0..4 {
-            best = self.better(best, glyph, template, x, t, s);
-        }
-        best
-    }
-
-    // The same, of any column and template; absent where they are no node.
-    fn best_at(&self, x: usize, t: usize) -> Option<Best>
-        ensures value { result ≡ present (is_node (line_meaning self.now.face.bytes.now self.now.photo) x t) (best_of self.now.face.bytes.now (image_of self.now.photo) x t) }
-        ensures within { IfSome result (λ b. b.row ≤ 4) }
-    {
-        let template = self.node(x, t)?;
-        let glyph = glyph_of(&self.face, self.weights, t, template.first);
-        Some(self.best_of(&glyph, template, x, t))
+        // A fold: `max_by_key` takes the last of equal rows, and the first is wanted.
+        (1..5)
+            .map(|row| Best {
+                score: self.score(row),
+                row,
+            })
+            .fold(top, |best, next| best.or_better(next))
     }
 }
 
@@ -204,12 +216,12 @@ impl<'f, 'p, 'c, 't> Scorer for Printed<'f, 'p, 'c, 't> {
     }
 
     fn bound(&self, x: usize, t: usize) -> Option<i64> {
-        let template = self.node(x, t)?;
-        Some(self.bound_of(template, x, t))
+        let node = self.node(x, t)?;
+        Some(node.bound())
     }
 
     fn exact(&self, x: usize, t: usize) -> Option<i64> {
-        let best = self.best_at(x, t)?;
+        let best = self.node(x, t)?.stand().best();
         Some(best.score)
     }
 }
@@ -220,7 +232,7 @@ impl<'f, 'p, 'c, 't> PlacedScorer for Printed<'f, 'p, 'c, 't> {
     ghost within = { λ s x t. shift_within s.face.bytes.now (image_of s.photo) x t };
 
     fn shift(&self, x: usize, t: usize) -> Option<i64> {
-        let best = self.best_at(x, t)?;
+        let best = self.node(x, t)?.stand().best();
         Some(best.shift())
     }
 }

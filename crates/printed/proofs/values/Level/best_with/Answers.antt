@@ -1,27 +1,24 @@
-use Rattle.std.proofs.Common.{◌≡◌, ◌+◌, sym, ap, ◌∙◌, w64, SFits, to_z, of_z, rules}
+use Rattle.std.proofs.Common.{◌≡◌, ◌+◌, Some, suc, sym, ◌∙◌, arith, w64, SFits, rules}
 use Rattle.std.proofs.lemmas.Int.{to_z-of_z}
-use Rattle.std.specs.Int.{int_max}
-use Rattle.matching.specs.Column.{fewest}
+use Rattle.std.proofs.lemmas.Iterator.Consumers.{reduce_from_yields_List}
+use Rattle.matching.specs.Column.{fewest, spread}
 use Rattle.matching.specs.Counts.{greatest}
-use Rattle.matching.proofs.Sums.{greatest_step}
 use Rattle.printed.specs.Values.{with_level}
+use Rattle.printed.proofs.Summing.{mapped}
+use Rattle.printed.proofs.Choosing.{greater, greatest_over}
 use Rattle.printed.proofs.values.Level.best_with.Goals as goal
 
-pub loop-i-init : goal.loop-i-init
-unfolding greatest
-loop-i-init c =
-    let f : SFits w64 c.with-best.result = search rules in
-    to_z-of_z w64 c.with-best.result f ∙ c.with-best.ensures
-    ∙ ap (with_level c.args.table.now c.args.self.now.weight c.args.black) c.saturating_sub-fewest.ensures
-
-pub loop-i-preserved : goal.loop-i-preserved
-loop-i-preserved c =
-    let f = with_level c.args.table.now c.args.self.now.weight c.args.black in
-    let a = fewest c.args.self.now.room c.args.black in
-    let i = c.loop-i.i in
-    let inv = c.loop-i.invariant in
-    let at : c.saturating_sub-fewest.result + (i + 1) ≡ a + (i + 1) = ap (λ q. q + (i + 1)) c.saturating_sub-fewest.ensures in
-    let fit-with : SFits w64 c.with.result = search rules in
-    let fit-max : SFits w64 c.max-best.result = search rules in
-    let here : to_z w64 (of_z w64 c.with.result) ≡ f (a + (i + 1)) = to_z-of_z w64 c.with.result fit-with ∙ c.with.ensures ∙ ap f at in
-    to_z-of_z w64 c.max-best.result fit-max ∙ c.max-best.ensures.value ∙ (λ k. int_max (here k) (inv k)) ∙ sym (greatest_step f a i)
+pub returns : goal.returns
+returns c =
+    let self = c.args.self.now in
+    let f = with_level self.before.now self.weight c.args.black in
+    let a = c.saturating_sub-fewest.result in
+    let n = c.saturating_sub-spread.result in
+    let most : Some c.unwrap.result ≡ Some (greatest f a n) = sym c.unwrap.ensures
+    ∙ reduce_from_yields_List greater _ _ c.max.ensures.ran (mapped _ (λ i. f (a + i)) (suc n) c.map.ensures.source (omega arith) c.map.ensures.closure (λ x r q k. search rules))
+    ∙ greatest_over f a n in
+    let value : c.unwrap.result ≡ greatest f a n = cc in
+    let fits : SFits w64 c.unwrap.result = search rules in
+    let low : a ≡ fewest self.room c.args.black = c.saturating_sub-fewest.ensures in
+    let more : n ≡ spread self.count self.room c.args.black = grind arith in
+    to_z-of_z w64 c.unwrap.result fits ∙ value ∙ (λ i. greatest f (low i) (more i))

@@ -1,0 +1,14 @@
+-- The columns of an image, each as a word and with how many of its pixels are black. Assumes nothing.
+use Rattle.std.specs.Prelude.{ℕ, List, map}
+use Rattle.std.specs.List.{range_with_len}
+use Rattle.matching.specs.Counts.{count_of}
+use Rattle.matching.specs.Printed.{Image}
+use Rattle.matching.specs.Words.{word_of}
+use Rattle.printed.specs.declared.image.Column.{Column}
+
+-- the first rows of column x
+abbrev pub column_of : Image → ℕ → ℕ → Column
+column_of image rows x = record { word = word_of rows (image x); black = count_of rows (image x) }
+
+abbrev pub image_columns : Image → ℕ → ℕ → List Column
+image_columns image rows width = map (column_of image rows) (range_with_len 0 width)
