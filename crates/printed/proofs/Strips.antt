@@ -1,5 +1,5 @@
 -- Columns of a face: where their words lie, and how much they can earn. Assumes nothing.
-use Rattle.std.proofs.Common.{◌≡◌, ℕ, zero, suc, refl, map, ◌+◌, ◌*◌, ◌/◌, ◌^◌, ◌<◌, ◌≤◌, Bool, true, ◌&&◌, leb, List, [], ◌∷◌, length, get_or, ℤ, pos, ◌+ℤ◌, ◌*ℤ◌, w64, SFits, to_z, of_z, ap, ◌∙◌, subst, mul-add, arith}
+use Rattle.std.proofs.Common.{◌≡◌, ℕ, zero, suc, sym, refl, map, ◌+◌, ◌*◌, ◌/◌, ◌^◌, ◌<◌, ◌≤◌, Bool, true, ◌&&◌, leb, List, [], ◌∷◌, length, get_or, ℤ, pos, ◌+ℤ◌, ◌*ℤ◌, w64, SFits, to_z, of_z, ap, ◌∙◌, subst, mul-add, add-one, arith}
 use lib.Bits.{bit_and}
 use lib.Count.{ones}
 use Rattle.std.proofs.lemmas.Nat.{mul-add-lt, and_le_l, ones-le}
@@ -11,7 +11,7 @@ use Rattle.octets.proofs.Bits.{bits_below}
 use Rattle.octets.proofs.Stretches.{u32_between}
 use Rattle.face.specs.Fields.{count, levels, height, gamma, beta, box_width, columns_before, column_start, word_start, columns_there}
 use Rattle.face.specs.Laid.{FaceLaid, column_word}
-use Rattle.face.proofs.Columns.{columns_few, columns_more, columns_mono, starts_mono}
+use Rattle.face.proofs.Columns.{columns_few, columns_none, columns_more, columns_mono, starts_mono}
 use Rattle.matching.specs.Column.{gain}
 use Rattle.matching.specs.Counts.{sum, sum_signed, count_of}
 use Rattle.matching.specs.Printed.{Image, rows, base, black_count, ink, value_of, free_rows, column_pixel, column_over_black}
@@ -42,9 +42,9 @@ module _ (face : List ℕ) where
   widths = widths_of (range_with_len 0 (count face))
 
   pub widths_sum : (n : ℕ) → sum n (box_width face) ≡ columns_before face n
-  unfolding sum columns_before
-  widths_sum zero = refl
-  widths_sum (suc n) = ap (λ q. q + box_width face n) (widths_sum n)
+  unfolding sum
+  widths_sum zero = sym (columns_none face)
+  widths_sum (suc n) = ap (λ q. q + box_width face n) (widths_sum n) ∙ sym (columns_more face n) ∙ ap (columns_before face) (add-one n)
 
   module _ (laid : FaceLaid face) where
     abbrev all : ℕ

@@ -30,5 +30,5 @@ returns c =
     let face = self.weighed.face in
     let at = ap (λ n. u32_at self.words.now (4 * (n * c.args.c + c.args.l))) c.levels.ensures.value in
     let lies = ap (λ ws. u32_at ws (4 * (levels face.bytes.now * c.args.c + c.args.l))) self.lies in
-    c.from.ensures ∙ c.u32_at.ensures ∙ at ∙ lies
+    c.from.ensures ∙ c.at.ensures ∙ at ∙ lies
     ∙ strip_word face.bytes.now (laid_from_is_ok face.bytes.now face.lawful) self.first self.width self.there c.args.c c.args.l c.requires.0 c.requires.1
