@@ -51,6 +51,8 @@ fn check_head(bytes: &[u8]) -> Result<(), Refusal>
     )
 }
 
+// The numbers of the head are three functions of one line: each has a place and a width of its own.
+
 // How many templates there are.
 pub(crate) fn count(bytes: &[u8]) -> usize
     ensures value { result ≡ count bytes.now }
@@ -74,6 +76,8 @@ pub(crate) fn height(bytes: &[u8]) -> usize
 {
     usize::from(u8::at(bytes, 3))
 }
+
+// Where a number is summed with an index, the clause bounds the index: a type for each index would be longer than its clauses.
 
 // The first byte of a level.
 pub(crate) fn level_start(level: usize) -> usize
@@ -206,6 +210,7 @@ impl<'a> Head<'a> {
         levels(self.bytes) * columns_before(self.bytes, count(self.bytes))
     }
 
+    // Whether the file ends where its last word does. A sheet's has the same shape, over another format's `start` and refusal.
     fn check_length(&self) -> Result<(), Refusal>
         ensures { result ≡ length_verdict self.now.bytes.now }
     {

@@ -1,5 +1,5 @@
 -- Laws of sums, counts and greatest values. Assumes nothing.
-use Rattle.std.proofs.Common.{◌≡◌, ℕ, zero, suc, ◌+◌, ◌*◌, ◌<◌, ◌≤◌, cond, ℤ, pos, ◌+ℤ◌, ◌*ℤ◌, neg_ℤ, ◌≤ℤ◌, ◌<ℤ◌, sym, refl, ap, ◌∙◌, subst, ⊎_elim, add-one, arith}
+use Rattle.std.proofs.Common.{◌≡◌, ℕ, zero, suc, ◌+◌, ◌*◌, ◌<◌, ◌≤◌, cond, ℤ, pos, ◌+ℤ◌, ◌*ℤ◌, neg_ℤ, ◌≤ℤ◌, sym, refl, ap, ◌∙◌, subst, ⊎_elim, add-one, arith}
 use lib.IntN.{*ℤ_comm, *ℤ-zero, suc_ℤ-*ℤ}
 use lib.Signed.{lt_z}
 use Rattle.std.proofs.lemmas.Int.{ints, by_lt_z}
@@ -185,35 +185,7 @@ greatest_at_lowest f zero = refl
 greatest_at_lowest f (suc n) =
     ap (int_max (f (0 + suc n))) (greatest_at_lowest f n) ∙ lowest_value f n (lowest f n) (lowest_is f n)
 
--- one step of each, as a loop makes it
+-- one number more
 pub sum_more : (n : ℕ) (f : ℕ → ℕ) → sum (n + 1) f ≡ sum n f + f n
 unfolding sum
 sum_more n f = rw add-one refl
-
-pub sum_signed_more : (n : ℕ) (f : ℕ → ℤ) → sum_signed (n + 1) f ≡ sum_signed n f +ℤ f n
-unfolding sum_signed
-sum_signed_more n f = rw add-one refl
-
-pub greatest_step : (f : ℕ → ℤ) (a n : ℕ) → greatest f a (n + 1) ≡ int_max (f (a + (n + 1))) (greatest f a n)
-unfolding greatest
-greatest_step f a n = rw add-one refl
-
-pub sum_signed_onto : (a : ℤ) (n : ℕ) (f : ℕ → ℤ) → a +ℤ sum_signed n f +ℤ f n ≡ a +ℤ sum_signed (n + 1) f
-sum_signed_onto a n f = omega (arith, ints, sum_signed_more n f)
-
--- one more value takes the lowest place, or leaves it
-pub lowest_takes : (f : ℕ → ℤ) (n : ℕ) → f (lowest f n) <ℤ f (n + 1) → lowest f (n + 1) ≡ n + 1
-unfolding lowest
-lowest_takes f n h =
-    let e : n + 1 ≡ suc n = omega arith in
-    let less : f (lowest f n) <ℤ f (suc n) = subst (λ k. f (lowest f n) <ℤ f k) e h in
-    let here : cond (lt_z (f (lowest f n)) (f (suc n))) (suc n) (lowest f n) ≡ suc n = grind (arith, ints) in
-    ap (lowest f) e ∙ here ∙ sym e
-
-pub lowest_keeps : (f : ℕ → ℤ) (n : ℕ) → f (n + 1) ≤ℤ f (lowest f n) → lowest f (n + 1) ≡ lowest f n
-unfolding lowest
-lowest_keeps f n h =
-    let e : n + 1 ≡ suc n = omega arith in
-    let less : f (suc n) ≤ℤ f (lowest f n) = subst (λ k. f k ≤ℤ f (lowest f n)) e h in
-    let here : cond (lt_z (f (lowest f n)) (f (suc n))) (suc n) (lowest f n) ≡ lowest f n = grind (arith, ints) in
-    ap (lowest f) e ∙ here

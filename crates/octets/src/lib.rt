@@ -15,6 +15,7 @@ pub trait Number: Copy {
         ensures { result ≡ number_at bytes.now at };
 }
 
+// One `impl` of one line for each number, since the gate lets no macro of ours write them; `chunk_at` is what they share.
 impl Number for u8 {
     ghost number_at = { byte_at };
 

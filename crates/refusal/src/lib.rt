@@ -163,7 +163,8 @@ pub fn ensure_each<L: Fn(usize) -> bool, O: Fn(usize) -> Refusal>(
     }
 }
 
-// The first of `n` things that is not lawful.
+// The first of `n` things that is not lawful. By a loop: of `find`, whose closure calls the one that is given, the proof
+// did not close.
 fn first_unlawful<L: Fn(usize) -> bool>(n: usize, lawful: L) -> Option<usize>
     requires { (i : ℕ) → i < n → L.pre lawful i }
     ensures value { (test : ℕ → Bool) → Tells n (L.post lawful) test → result ≡ first_failing test 0 n }

@@ -46,6 +46,7 @@ pub trait PlacedScorer: Scorer {
         ensures { result ≡ at_node (Self.Scorer.meaning self.now) (shifts self.now) x t };
 }
 
+// Each question is handed on under its own name: one function for all would have to be told which, by a closure for each.
 impl<'a, S: Scorer> Scorer for &'a S {
     ghost meaning = { λ s. S.Scorer.meaning s.now };
 

@@ -92,6 +92,8 @@ impl<S: Scorer> Scorer for Window<S> {
         self.below.setwidth(t)
     }
 
+    // Three questions that differ in what they ask below alone: what they share is `column_below`, and a closure for each
+    // would be no shorter.
     fn bound(&self, x: usize, t: usize) -> Option<i64> {
         let column = self.column_below(x, t)?;
         self.below.bound(column, t)

@@ -60,6 +60,7 @@ impl<'a> Scorer for Sheet<'a> {
 
     ghost lawful = { λ s. sheet_lawful s.bytes.now s.lawful };
 
+    // The check of the file has these two numbers too, of a head that it keeps to itself: one line each.
     fn width(&self) -> usize {
         usize::from(u16::at(self.bytes, 0))
     }

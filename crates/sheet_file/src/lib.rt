@@ -123,7 +123,8 @@ impl<'a> Head<'a> {
         )
     }
 
-    // Whether each node has its scores in range; an entry that is no node may hold anything.
+    // Whether each node has its scores in range; an entry that is no node may hold anything. This check and the next are one
+    // call each, which differ in the test and in the refusal: a function over both would be that call again.
     fn check_scores(&self) -> Result<(), Refusal>
         ensures { result ≡ scores_verdict self.now.bytes.now }
     {
