@@ -80,7 +80,11 @@ impl<'f, 'w> Strip<'f, 'w> {
         requires { l < levels self.now.weighed.face.bytes.now }
         ensures { result ≡ strip_pixels self.now.weighed.face.bytes.now self.now.first self.now.width l }
     {
-        (0..self.width).map(|c| self.ink(c, l)).sum()
+        let mut pixels = 0;
+        for c in 0..self.width {
+            pixels += self.ink(c, l);
+        }
+        pixels
     }
 
     // What the pixels of a level earn wherever they lie.
