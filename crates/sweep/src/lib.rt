@@ -7,4 +7,4 @@ mod sweeping;
 
 pub use combining::Combining;
 pub use places::work_place;
-pub use sweeping::sweep;
+pub use sweeping::{sweep, sweep_cells};
