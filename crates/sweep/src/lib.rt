@@ -4,6 +4,8 @@
 mod combining;
 mod places;
 mod sweeping;
+#[cfg(test)]
+mod tests;
 
 pub use combining::Combining;
 pub use places::work_place;
