@@ -1,6 +1,5 @@
 pub mod Blanks
 pub mod Made
-pub mod Places
 pub mod Rows
 pub mod Views
 pub mod Widths
