@@ -67,7 +67,8 @@ pub(crate) fn photo_bytes(heap: Global, header: &[u8], rows: &[&[u8]]) -> Result
     Ok(bytes)
 }
 
-// Makes the scorer of a face and a photograph, and asks.
+// Makes the scorer of a face and a photograph, and asks. Checking, making, gathering and tabulating lend to each other, so
+// no function can hand the scorer out: what asks it is handed in.
 pub(crate) fn on_line<F: FnOnce(&Printed) -> Result<(), Fail>>(
     heap: Global,
     face_bytes: &[u8],
