@@ -5,6 +5,7 @@ ghost use Rattle.cells.specs.Line.{templates};
 
 use super::Line;
 use refusal::{Refusal, ensure};
+use scorer::ends_on_line;
 
 impl Line {
     // How many cells the line needs.
@@ -30,8 +31,7 @@ impl Line {
     {
         let setwidth = self.setwidth(t)?;
         let width = self.width();
-        // By comparing: with `checked_sub` here a sweep takes an eighth as long again.
-        if x > width || setwidth > width - x {
+        if !ends_on_line(x, setwidth, width) {
             return None;
         }
         Some(self.cell_index(x, t))

@@ -46,7 +46,8 @@ pub trait PlacedScorer: Scorer {
         ensures { result ≡ at_node (Self.Scorer.meaning self.now) (shifts self.now) x t };
 }
 
-// Whether a template of so many columns that stands at column `x` ends on a line of `width` columns.
+// Whether a template of so many columns that stands at column `x` ends on a line of `width` columns. By comparing: with
+// `checked_sub` a sweep over cells takes an eighth as long again.
 pub fn ends_on_line(x: usize, setwidth: usize, width: usize) -> bool
     ensures { result ≡ nat_le (x + setwidth) width }
 {
