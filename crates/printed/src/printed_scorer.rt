@@ -25,8 +25,10 @@ use super::values::Values;
 use face::Face;
 use photo::Photograph;
 use scorer::{PlacedScorer, Scorer};
+use std::cmp::Reverse;
 
-// A face laid over a photograph, with what was gathered of both.
+// A face laid over a photograph, with what was gathered of both. The face and its weights are no `Weighed` here, since the
+// clauses of `new` and the scorer's meaning speak of the field `face`; `Node::stand` makes one.
 #[derive(Clone, Copy)]
 pub struct Printed<'f, 'p, 'c, 't> {
     face: Face<'f>,
@@ -193,17 +195,14 @@ impl<'s, 'f, 'p, 'c, 't> Standing<'s, 'f, 'p, 'c, 't> {
         ensures value { result ≡ best_of self.now.node.line.now.face.bytes.now (image_of self.now.node.line.now.photo) self.now.node.x self.now.node.t }
         ensures within { result.row ≤ 4 }
     {
-        let top = Best {
-            score: self.score(0),
-            row: 0,
-        };
-        // A fold: `max_by_key` takes the last of equal rows, and the first is wanted.
-        (1..5)
+        // By the opposite key: of equal rows `max_by_key` takes the last, and `min_by_key` the first, which is wanted.
+        (0..5)
             .map(|row| Best {
                 score: self.score(row),
                 row,
             })
-            .fold(top, |best, next| best.or_better(next))
+            .min_by_key(|best| Reverse(best.score))
+            .unwrap()
     }
 }
 
