@@ -1,7 +1,7 @@
 use Rattle.std.proofs.Common.{◌+◌, ◌∙◌, w64, SFits, rules}
 use Rattle.std.proofs.lemmas.Int.{to_z-of_z}
 use Rattle.face.specs.Fields.{columns_before}
-use Rattle.face.proofs.Exact.{laid_from_is_ok}
+use Rattle.printed.proofs.Laid.{laid_of}
 use Rattle.matching.specs.Printed.{value_of, black_count, bound_score}
 use Rattle.printed.specs.Gathered.{image_of}
 use Rattle.printed.proofs.Strips.{can_small}
@@ -12,7 +12,7 @@ over_columns-requires-clause-small c =
     let self = c.args.self.now in
     let face = self.line.now.face.bytes.now in
     let image = image_of self.line.now.photo in
-    let laid = laid_from_is_ok face self.line.now.face.lawful in
+    let laid = laid_of self.line.now.face in
     (λ i. value_of face (columns_before face self.t + i) (black_count face image (self.x + i)), λ x r k. search rules, λ i h. can_small face laid image self.x self.t i)
 
 pub returns : goal.returns

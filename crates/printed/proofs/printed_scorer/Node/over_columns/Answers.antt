@@ -1,7 +1,7 @@
 use Rattle.std.proofs.Common.{◌≡◌, ℕ, ℤ, ◌+ℤ◌, sym, ap, ◌∙◌, subst, arith}
 use Rattle.std.proofs.lemmas.Iterator.{serves_from_Range}
 use Rattle.face.specs.Fields.{box_width}
-use Rattle.face.proofs.Exact.{laid_from_is_ok}
+use Rattle.printed.proofs.Laid.{laid_of}
 use Rattle.matching.specs.Counts.{sum_signed}
 use Rattle.matching.specs.Printed.{base}
 use Rattle.printed.proofs.Summing.{computed, signed_summed, signed_fits}
@@ -18,7 +18,7 @@ sum-requires-clause-fits g c =
     let self = c.args.self.now in
     let face = self.line.now.face.bytes.now in
     let f = c.requires.small.0 in
-    let laid = laid_from_is_ok face self.line.now.face.lawful in
+    let laid = laid_of self.line.now.face in
     signed_fits _ f (box_width face self.t) c.map.ensures.source (ap (λ p. p.width) self.laid) c.map.ensures.closure (computed _ f g.met.G.FnMut.1 g.met.G.Fn.1 c.requires.small.1)
     144000 32 c.requires.small.2 (laid.templates_laid self.t self.known).boxed (omega arith)
 
@@ -27,7 +27,7 @@ overflow_add-result g c =
     let self = c.args.self.now in
     let face = self.line.now.face.bytes.now in
     let f = c.requires.small.0 in
-    let laid = laid_from_is_ok face self.line.now.face.lawful in
+    let laid = laid_of self.line.now.face in
     let over = signed_summed _ f (box_width face self.t) c.map.ensures.source (ap (λ p. p.width) self.laid) c.map.ensures.closure (computed _ f g.met.G.FnMut.1 g.met.G.Fn.1 c.requires.small.1) c.sum.result c.sum.ensures.ran in
     (box_total face laid self.t self.known f c.requires.small.2 _ _ (ap (λ p. p.base) self.laid) over).0
 
@@ -36,7 +36,7 @@ returns g c =
     let self = c.args.self.now in
     let face = self.line.now.face.bytes.now in
     let f = c.requires.small.0 in
-    let laid = laid_from_is_ok face self.line.now.face.lawful in
+    let laid = laid_of self.line.now.face in
     let sum : (h : ℕ → ℤ) → ((x : ℕ) (r : ℤ) → g.G.Fn.post c.args.gain (x, tt) r → r ≡ h x) → c.sum.result ≡ sum_signed (box_width face self.t) h =
     λ h told. signed_summed _ h (box_width face self.t) c.map.ensures.source (ap (λ p. p.width) self.laid) c.map.ensures.closure (computed _ h g.met.G.FnMut.1 g.met.G.Fn.1 told) c.sum.result c.sum.ensures.ran in
     let over = sum f c.requires.small.1 in

@@ -1,7 +1,7 @@
 use Rattle.std.proofs.Common.{sym, ◌∙◌, w64, SFits, rules}
 use Rattle.std.proofs.lemmas.Int.{to_z-of_z}
 use Rattle.face.specs.Fields.{levels, gamma}
-use Rattle.face.proofs.Exact.{laid_from_is_ok}
+use Rattle.printed.proofs.Laid.{laid_of}
 use Rattle.matching.specs.Column.{gain}
 use Rattle.matching.specs.Printed.{column_over_black}
 use Rattle.matching.proofs.Lawful.{score_by_columns}
@@ -14,7 +14,7 @@ over_columns-requires-clause-small c =
     let self = c.args.self.now.node in
     let face = self.line.now.face.bytes.now in
     let image = image_of self.line.now.photo in
-    let laid = laid_from_is_ok face self.line.now.face.lawful in
+    let laid = laid_of self.line.now.face in
     (λ i. gain (gamma face) (levels face) (column_over_black face image self.x self.t c.args.s i), λ x r k. search rules, λ i h. over_small face laid self.t self.known image self.x c.args.s i h c.requires)
 
 pub returns : goal.returns
