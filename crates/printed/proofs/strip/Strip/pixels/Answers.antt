@@ -1,5 +1,5 @@
 use Rattle.std.proofs.Common.{◌+◌, refl, arith}
-use Rattle.face.proofs.Exact.{laid_from_is_ok}
+use Rattle.printed.proofs.Laid.{laid_of}
 use Rattle.matching.specs.Counts.{sum}
 use Rattle.matching.specs.Printed.{ink}
 use Rattle.matching.proofs.Sums.{sum_more}
@@ -14,7 +14,7 @@ pub overflow_add-pixels : goal.overflow_add-pixels
 overflow_add-pixels c =
     let self = c.args.self.now in
     let face = self.weighed.face in
-    omega (arith, self.there, all_few face.bytes.now (laid_from_is_ok face.bytes.now face.lawful))
+    omega (arith, self.there, all_few face.bytes.now (laid_of face))
 
 pub loop-c-preserved : goal.loop-c-preserved
 loop-c-preserved c =
