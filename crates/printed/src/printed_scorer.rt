@@ -24,7 +24,7 @@ use super::tables::{Tables, Template};
 use super::values::Values;
 use face::Face;
 use photo::Photograph;
-use scorer::{PlacedScorer, Scorer};
+use scorer::{PlacedScorer, Scorer, ends_on_line};
 use std::cmp::Reverse;
 
 // A face laid over a photograph, with what was gathered of both. The face and its weights are no `Weighed` here, since the
@@ -103,7 +103,7 @@ impl<'f, 'p, 'c, 't> Printed<'f, 'p, 'c, 't> {
     {
         let template = self.template(t)?;
         let width = self.photo.width();
-        if x <= width && template.setwidth <= width - x {
+        if ends_on_line(x, template.setwidth, width) {
             Some(Node {
                 line: self,
                 x,
