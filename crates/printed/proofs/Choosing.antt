@@ -46,7 +46,8 @@ greatest_over f a (suc n) =
     ap (reduce greater) (more g 0 (suc n) (suc n) (omega arith)) ∙ reduce_push greater (map g (range_with_len 0 (suc n))) (f (a + suc n)) (greatest f a n) (greatest_over f a n)
     ∙ ap Some (picks (greatest f a n) (f (a + suc n)))
 
--- what calls that change no state make of the numbers from i on
+-- what calls that change no state make of the numbers from i on; `cells` has this lemma too, since the crates below both are
+-- about other things
 pub made_each : {F B : Type 0} (g : Mut F (ℕ × Unit {0}) B) (f : F) (h : ℕ → B) → ((i : ℕ) (y : B) (q : F) → Called g f (i, tt) y q → (q ≡ f) × (y ≡ h i)) → (ys : List B) (i n : ℕ) → IsFromFnResultFrom g f ys i n → (k : ℕ) → i ≤ k → k < i + n → (d : B) → get_or ys k d ≡ h k
 made_each g f h each ys i zero made k low high d = absurd (omega arith)
 made_each {B = B} g f h each ys i (suc n) made k low high d =

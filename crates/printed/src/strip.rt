@@ -57,6 +57,8 @@ impl<'f, 'w> Weighed<'f, 'w> {
     }
 }
 
+// A column and a level are below the strip's own in each clause: the range of an index that a caller gives, and no fact that a
+// type could hold more plainly.
 impl<'f, 'w> Strip<'f, 'w> {
     // The word of a level in a column.
     fn word(&self, c: usize, l: usize) -> u64

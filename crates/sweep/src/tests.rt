@@ -1,11 +1,11 @@
 // Sweeps over cells that a Vec holds, for the lines of small sheets.
-ghost use Rattle.std.specs.Prelude.{◌≡◌, IfOk, Ok, vec_len};
+ghost use Rattle.std.specs.Prelude.{◌≡◌, Ok, vec_len};
 ghost use Rattle.cells.specs.Layout.{cells_verdict};
 ghost use Rattle.sweep.specs.Swept.{swept, SweepJoins};
 
 use super::{Combining, sweep_cells};
 use cells::{Cell, Line};
-use refusal::Refusal;
+use checks::lawful;
 use sheet::Sheet;
 use std::test::Fail;
 
@@ -30,13 +30,6 @@ const STANDING: [Standing; 5] = [
 
 // The total of each place of that line, and the last template of the path that has it.
 const TOTALS: [(Option<i64>, usize); 4] = [(Some(0), 0), (Some(1), 0), (Some(5), 1), (Some(8), 0)];
-
-// Hands on what is answered. Fails where something is refused.
-fn lawful(answer: Result<(), Refusal>) -> Result<(), Fail>
-    ensures { IfOk result (λ _. answer ≡ Ok tt) }
-{
-    answer.map_err(|refusal| Fail::new(format_args!("{refusal}")))
-}
 
 // The line of a sheet. Fails where the sheet is refused.
 fn line_of(bytes: &[u8]) -> Result<Line, Fail> {
