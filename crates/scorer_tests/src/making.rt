@@ -94,7 +94,9 @@ pub(crate) fn window<S: Scorer + Copy>(
     below: S,
     first: usize,
     width: usize,
-) -> Result<Window<S>, Fail> {
+) -> Result<Window<S>, Fail>
+    ensures { IfOk result (λ w. (w.below ≡ below) × ((w.first ≡ first) × (w.width ≡ width))) }
+{
     lawful(check_window(&below, first, width))?;
     Ok(Window::new(below, first, width))
 }
