@@ -1,5 +1,5 @@
 pub mod Blanks
-pub mod Places
+pub mod Made
 pub mod Rows
 pub mod Views
 pub mod Widths

@@ -1,12 +1,13 @@
 -- What is read of cells after one was written: that one at its place, and all others as they were. Assumes nothing.
 use Rattle.std.proofs.Common.{◌≡◌, ℕ, ◌+◌, ◌*◌, ◌<◌, ◌≤◌, ltb, leb, List, length, get_or, Some, None, Ok, Option, sym, refl, ap, subst, ⊎_elim, arith}
 use Rattle.std.proofs.lemmas.Nat.{mul-le}
-use Rattle.std.proofs.lemmas.List.{length-set, get_or-set_same, get_or-set_other}
+use Rattle.std.proofs.lemmas.List.{length-set, get_or-set_same, get_or-set_other, get_or-take}
 use Rattle.std.proofs.lemmas.Bool.{and_parts, and_from, ltb-true, leb-true, lt-ltb, le-leb, cases_order}
 use Rattle.std.proofs.lemmas.Option.{cond_some}
 use Rattle.octets.specs.Absent.{present}
 use Rattle.refusal.proofs.First.{exactly_ensure}
 use Rattle.refusal.specs.declared.Refusal.TheVariants.{CellsTooFew}
+use Rattle.cells.proofs.Widths.{length_widths}
 use Rattle.cells.specs.Blank.{blank}
 use Rattle.cells.specs.Layout.{cell_index, needed, cells_verdict, on_line, is_place, node_index, place_index, cell_at, with_cell, node_cell, place_cell, with_node, with_place}
 use Rattle.cells.specs.Line.{widths, templates}
@@ -32,7 +33,10 @@ cell_at_other cells (Some i) (Some j) c h = get_or-set_other cells i j c blank (
 
 -- each template of a line takes up a column or more
 pub widths_positive : (l : Line) (t : ℕ) → t < length (widths l) → 1 ≤ get_or (widths l) t 0
-widths_positive l t known = (l.set t known).0
+unfolding widths
+widths_positive l t h =
+    let known : t < templates l = omega (arith, length_widths l) in
+    subst (λ d. 1 ≤ d) (sym (get_or-take l.count l.setwidths t 0 known)) (l.set t known).0
 
 module _ (l : Line) where
   row_end : (t : ℕ) → (x : ℕ) → x ≤ l.width → cell_index l x t < (t + 1) * (l.width + 1)

@@ -5,6 +5,7 @@ ghost use Rattle.cells.specs.Line.{templates};
 
 use super::Line;
 use refusal::{Refusal, ensure};
+use scorer::ends_on_line;
 
 impl Line {
     // How many cells the line needs.
@@ -25,13 +26,12 @@ impl Line {
 
     // Where the cell of a node lies.
     #[tactic(auto, unfolding(crate::specs::Layout::node_index))]
-    pub(crate) fn node_index(&self, x: usize, t: usize) -> Option<usize>
+    pub(super) fn node_index(&self, x: usize, t: usize) -> Option<usize>
         ensures { result ≡ node_index self.now x t }
     {
         let setwidth = self.setwidth(t)?;
         let width = self.width();
-        // By comparing: with `checked_sub` here a sweep takes an eighth as long again.
-        if x > width || setwidth > width - x {
+        if !ends_on_line(x, setwidth, width) {
             return None;
         }
         Some(self.cell_index(x, t))
@@ -39,7 +39,7 @@ impl Line {
 
     // Where the cell of a place lies.
     #[tactic(auto, unfolding(crate::specs::Layout::place_index))]
-    pub(crate) fn place_index(&self, p: usize) -> Option<usize>
+    pub(super) fn place_index(&self, p: usize) -> Option<usize>
         ensures { result ≡ place_index self.now p }
     {
         if p > self.width() {
@@ -49,6 +49,7 @@ impl Line {
     }
 
     // The cell at column `x` of a row: those of the templates, and then that of the places.
+    // By counting: cells are lent as one flat stretch, so its rows are no slices of their own.
     #[tactic(auto, using(crate::proofs::Rows::few_rows))]
     fn cell_index(&self, x: usize, row: usize) -> usize
         requires row { row ≤ templates self.now }

@@ -36,6 +36,7 @@ pub fn check_eq<T: PartialEq + Debug + Drop>(found: T, wanted: T) -> Result<(), 
 }
 
 // The number and place of what is refused, or none where nothing is. Fails at want of memory, which has no number.
+// Tests compare these two, and not a refusal whole by `==`, since number and place are what the rules speak of.
 pub fn told<T: Drop>(answer: Result<T, Refusal>) -> Result<Option<(u8, usize)>, Fail>
     ensures { result_ok result ≡ refused_at answer }
 {

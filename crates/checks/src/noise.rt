@@ -32,6 +32,7 @@ impl Iterator for Noise {
 
     ghost next_gives = { λ s r t. (r ≡ Some s.next) × (t.next ≡ follower s.next) };
 
+    // The next number: a row has no end.
     fn next(&mut self) -> Option<u32> {
         Some(self.number())
     }

@@ -40,7 +40,7 @@ const PAIRS: [Pair; 10] = [
 ];
 
 fn main(rt: HostRuntime) -> anyhow::Result<()> {
-    for Pair(what, face, photo) in PAIRS.iter() {
+    for Pair(what, face, photo) in &PAIRS {
         print!(rt; "{what}: ")?;
         print_answer(&rt, list_files(&rt, face, photo))?;
     }

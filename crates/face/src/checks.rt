@@ -10,9 +10,11 @@ use refusal::{Refusal, ensure, ensure_each};
 
 const SMALLEST: usize = 4;
 
-const LARGEST: usize = 65_536;
+// The bytes of the largest face.
+pub const LARGEST: usize = 65_536;
 
-// The bytes of a face whose head was checked.
+// The bytes of a face whose head was checked. A sheet's file has such a type too: two formats have two heads, and share the
+// numbers of `octets` and the checks of `refusal`.
 #[derive(Clone, Copy)]
 struct Head<'a> {
     bytes: &'a [u8],

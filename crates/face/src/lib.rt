@@ -11,7 +11,7 @@ ghost use Rattle.face.specs.Verdict.{face_verdict};
 
 mod checks;
 
-pub use checks::check;
+pub use checks::{LARGEST, check};
 use checks::{column_start, columns_before, count, height, level_start, levels, template_start};
 use octets::Number;
 
@@ -144,11 +144,7 @@ impl<'a> Face<'a> {
         ensures value { result ≡ present (nat_lt level (levels_of self.now.bytes.now)) (level_start level) }
         ensures bound { IfSome result (λ at. at < 2 ^ 20) }
     {
-        if level < self.levels() {
-            Some(level_start(level))
-        } else {
-            None
-        }
+        (level < self.levels()).then(|| level_start(level))
     }
 
     // The first byte of a template.
@@ -156,11 +152,7 @@ impl<'a> Face<'a> {
         ensures value { result ≡ present (nat_lt t (count_of self.now.bytes.now)) (template_start self.now.bytes.now t) }
         ensures bound { IfSome result (λ at. (at < 2 ^ 20) × (t < count_of self.now.bytes.now)) }
     {
-        if t < self.count() {
-            Some(template_start(self.bytes, t))
-        } else {
-            None
-        }
+        (t < self.count()).then(|| template_start(self.bytes, t))
     }
 }
 

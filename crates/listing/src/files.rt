@@ -8,10 +8,6 @@ use std::fs::File;
 use std::io;
 use std::io::Read;
 
-const FACE_LIMIT: usize = 65_536;
-
-const PHOTOGRAPH_LIMIT: usize = 16_384;
-
 // The refusal of a file that could not be read; want of memory is told as such.
 fn unread(error: io::Error, unreadable: Refusal) -> Refusal
     ensures { Unread unreadable result }
@@ -54,12 +50,12 @@ fn read_file(
 pub fn list_files(rt: &HostRuntime, face_path: &str, photo_path: &str) -> Result<Line, Refusal>
     ensures { Told result }
 {
-    let face = read_file(rt, face_path, FACE_LIMIT, Refusal::FaceUnreadable)?;
+    let face = read_file(rt, face_path, face::LARGEST, Refusal::FaceUnreadable)?;
     face::check(&face)?;
     let photo = read_file(
         rt,
         photo_path,
-        PHOTOGRAPH_LIMIT,
+        photo::LARGEST,
         Refusal::PhotographUnreadable,
     )?;
     read_line(rt.alloc(), &face, &photo)

@@ -49,7 +49,8 @@ pub fn read_line(heap: Global, face: &[u8], photo: &[u8]) -> Result<Line, Refusa
     Ok(line)
 }
 
-// The line that the printed scorer of a face and a photograph tells.
+// The line that the printed scorer of a face and a photograph tells. What is gathered and tabulated is lent to the scorer, so
+// no function can hand one out, and whoever needs one makes it in these steps.
 fn scored_line(heap: Global, face: Face, photograph: Photograph) -> Result<Line, AllocError>
     ensures { IfOk result (λ line. line ≡ record { width = width_of photograph.entry; count = count face.entry.bytes.now }) }
 {

@@ -1,5 +1,5 @@
 -- Counting the bits of words is counting pixels. Assumes nothing.
-use Rattle.std.proofs.Common.{◌≡◌, ℕ, zero, suc, ◌+◌, ◌-◌, ◌*◌, ◌/◌, ◌%◌, ◌^◌, ◌<◌, ◌≤◌, Bool, true, false, ◌&&◌, eqb, sym, refl, ap, ◌∙◌, subst, ⊎_elim, arith}
+use Rattle.std.proofs.Common.{◌≡◌, ℕ, zero, suc, ◌+◌, ◌-◌, ◌*◌, ◌/◌, ◌%◌, ◌^◌, ◌<◌, ◌≤◌, Bool, true, false, ◌&&◌, eqb, sym, refl, ap, ◌∙◌, subst, ⊎_elim, add-one, arith}
 use native.Mathlib.Nat.{two-pow-succ}
 use lib.Bits.{bit_and}
 use lib.Count.{ones, ones_step, ones_cat}
@@ -121,3 +121,8 @@ matched w height s rows b h k =
     ones_counted height (bit_and w v) below
     ∙ sum_same height (λ i. one_if (has_bit (bit_and w v) i)) (λ i. one_if (has_bit w i && b (i + s))) (λ i p.
     ap one_if (both_have w v i ∙ ap (λ q. has_bit w i && q) (shifted_bit (word_of rows b) s i ∙ word_bit rows b (i + s) (omega arith))))
+
+-- one row more, as a loop adds it
+pub word_more : (n : ℕ) (p : ℕ → Bool) → word_of (n + 1) p ≡ one_if (p n) * 2 ^ n + word_of n p
+unfolding word_of
+word_more n p = rw add-one refl

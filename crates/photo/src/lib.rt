@@ -13,7 +13,8 @@ use refusal::{Refusal, ensure};
 pub use scan::Header;
 use scan::scan_header;
 
-const LARGEST: usize = 16_384;
+// The bytes of the largest photograph.
+pub const LARGEST: usize = 16_384;
 
 // A photograph that was checked.
 #[derive(Clone, Copy)]

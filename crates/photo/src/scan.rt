@@ -54,7 +54,8 @@ fn run_end<T: FnMut(&&u8) -> bool + Drop>(bytes: &[u8], from: usize, belongs: T)
     from + rest.iter().take_while(belongs).count()
 }
 
-// The number that at most five digits write. By a loop: in a `fold` no invariant would keep the sums in range.
+// The number that at most five digits write. By a loop: with `fold`, the proof of what its closure needs at
+// each step did not close.
 fn decimal_of(digits: &[u8]) -> usize
     requires { (length digits.now ≤ 5) × (AllByRecursion (λ c. digit c ≡ true) digits.now) }
     ensures value { result ≡ decimal digits.now }

@@ -1,3 +1,4 @@
+pub mod Laid
 pub mod Adding
 pub mod Summing
 pub mod Choosing

@@ -8,7 +8,7 @@ use Rattle.std.proofs.lemmas.Iterator.{YieldsList, YieldsList-from_map, YieldsLi
 use Rattle.std.proofs.lemmas.Iterator.Consumers.{sum_from_yields_List, fits_from_yields_list}
 use Rattle.std.proofs.lemmas.List.FromFn.{length-map-range_with_len, take-map-range_with_len, map-range_with_len_more}
 use Rattle.std.proofs.lemmas.List.Sums.{fold_push, sum_by_push}
-use denote.Param.Members.{Mut, Called}
+use denote.Param.Members.{Mut, Called, MutLaws, FnLaws}
 use Rattle.std.specs.Iterator.Adapters.{map_source, map_callee}
 use Rattle.std.specs.declared.iter.Map.{Map}
 use Rattle.std.specs.declared.ops.Range.{Range}
@@ -41,6 +41,10 @@ front f n seen rest e =
     let all : map f (range_with_len 0 n) ≡ seen ++ rest = e ∙ ap (λ q. q ++ rest) (map-id seen) in
     let few : length seen ≤ n = omega (arith, ap length all, length-append seen rest, length-map-range_with_len f 0 n) in
     (few, sym (take-append_seam seen rest) ∙ ap (take (length seen)) (sym all) ∙ take-map-range_with_len f 0 n (length seen) few)
+
+-- a call of a closure that keeps its state and computes f
+pub computed : {F B : Type 0} (g : Mut F (ℕ × Unit {0}) B) {p : F} (f : ℕ → B) → MutLaws g → FnLaws g → ((x : ℕ) (r : B) → g.post p (x, tt) r → r ≡ f x) → (x : ℕ) (r : B) (q : F) → Called g p (x, tt) r q → (q ≡ p) × (r ≡ f x)
+computed g {p} f laws stays told x r q k = (stays.step_stays p (x, tt) r q k, told x r ((laws.post_iff p (x, tt) r).1 (q, k)))
 
 -- what the chain yields, from a source and a closure that computes f
 module _ {F B : Type 0} (g : Mut F (ℕ × Unit {0}) B) (f : ℕ → B) (n : ℕ) {m : ℕ} {s : Map (Range ℕ) F} {p : F} (source : map_source s ≡ record { start = 0; end = m }) (wide : m ≡ n) (closure : map_callee s ≡ p) (calls : (x : ℕ) (r : B) (q : F) → Called g p (x, tt) r q → (q ≡ p) × (r ≡ f x)) where

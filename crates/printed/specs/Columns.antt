@@ -1,5 +1,5 @@
--- The columns of an image, each as a word and with how many of its pixels are black. Assumes nothing.
-use Rattle.std.specs.Prelude.{ℕ, List, map}
+-- The columns of an image, each as a word and with how many of its pixels are black; and what is told of columns. Assumes nothing.
+use Rattle.std.specs.Prelude.{◌≡◌, ℕ, ℤ, List, map}
 use Rattle.std.specs.List.{range_with_len}
 use Rattle.matching.specs.Counts.{count_of}
 use Rattle.matching.specs.Printed.{Image}
@@ -12,3 +12,7 @@ column_of image rows x = record { word = word_of rows (image x); black = count_o
 
 abbrev pub image_columns : Image → ℕ → ℕ → List Column
 image_columns image rows width = map (column_of image rows) (range_with_len 0 width)
+
+-- what is answered of any column is what a function tells
+abbrev pub Computes : (ℕ → ℤ → Type 0) → (ℕ → ℤ) → Type 0
+Computes answers f = (c : ℕ) (z : ℤ) → answers c z → z ≡ f c

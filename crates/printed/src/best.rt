@@ -1,5 +1,5 @@
-// The best row for a box so far, and the score there.
-ghost use Rattle.std.specs.Prelude.{◌≡◌, ◌≤◌, cond, int_lt, pos, ◌+ℤ◌, neg_ℤ};
+// The best row for a box, and the score there.
+ghost use Rattle.std.specs.Prelude.{◌≡◌, ◌≤◌, pos, ◌+ℤ◌, neg_ℤ};
 
 #[derive(Clone, Copy)]
 pub(crate) struct Best {
@@ -8,17 +8,6 @@ pub(crate) struct Best {
 }
 
 impl Best {
-    // The better of two rows: the later one only where its score is above that of this one.
-    pub(crate) fn or_better(self, later: Best) -> Best
-        ensures { result ≡ cond (int_lt self.score later.score) later self }
-    {
-        if self.score < later.score {
-            later
-        } else {
-            self
-        }
-    }
-
     // How far below the middle the box lies.
     pub(crate) fn shift(&self) -> i64
         requires { self.now.row ≤ 4 }

@@ -1,5 +1,6 @@
 // The columns of a photograph, gathered once for a line: each as a word, with how many of its pixels are black.
-ghost use Rattle.std.specs.Prelude.{◌≡◌, ◌≤◌, count_ones, IfOk};
+ghost use Rattle.std.specs.Prelude.{◌≡◌, ◌+◌, ◌*◌, ◌^◌, ◌<◌, ◌≤◌, count_ones, IfOk};
+ghost use Rattle.matching.specs.Counts.{one_if};
 ghost use Rattle.printed.specs.Gathered.{Gathered, image_of};
 ghost use Rattle.printed.specs.Columns.{column_of};
 
@@ -21,15 +22,28 @@ pub struct Columns {
 }
 
 impl Column {
-    // Column `x` of a photograph, in so many rows.
+    // Column `x` of a photograph, in so many rows. A rule of the project: a `for` over the raster rows gathers black pixels,
+    // as one over the columns of a box gathers those of a level (`Strip::pixels`).
     fn of(photo: &Photograph, x: usize, rows: usize) -> Column
         requires { rows ≤ 36 }
         ensures { result ≡ column_of (image_of photo.now) rows x }
     {
-        let word = (0..rows).map(|y| u64::from(photo.black(x, y)) << y).sum();
+        let mut column = Column::default();
+        for y in 0..rows {
+            column = column.with_row(y, photo.black(x, y));
+        }
+        column
+    }
+
+    // The column with one row more, in bit `y`.
+    fn with_row(self, y: usize, black: bool) -> Column
+        requires { (y < 36) × ((self.word < 2 ^ y) × (self.black ≤ y)) }
+        ensures word { result.word ≡ one_if black * 2 ^ y + self.word }
+        ensures black { result.black ≡ self.black + one_if black }
+    {
         Column {
-            word,
-            black: ones_in(word),
+            word: self.word + (u64::from(black) << y),
+            black: self.black + usize::from(black),
         }
     }
 }

@@ -1,13 +1,15 @@
 // The scorer of a face and a photograph.
-ghost use Rattle.std.specs.Prelude.{◌≡◌, ◌+◌, ◌<◌, ◌≤◌, IfSome, is_some, nat_lt};
+ghost use Rattle.std.specs.Prelude.{◌≡◌, ℕ, ℤ, ◌+◌, ◌+ℤ◌, ◌<◌, ◌≤◌, IfSome, is_some, nat_lt};
 ghost use Rattle.octets.specs.Absent.{present};
 ghost use Rattle.face.specs.Fields.{count, levels, gamma, box_width, columns_before};
 ghost use Rattle.matching.proofs.Lawful.{shift_within};
+ghost use Rattle.matching.proofs.Ranges.{Within};
 ghost use Rattle.matching.specs.Column.{gain};
-ghost use Rattle.matching.specs.Printed.{rows, black_count, value_of, bound_score, column_over_black, score_at, shift_of};
+ghost use Rattle.matching.specs.Counts.{sum_signed};
+ghost use Rattle.matching.specs.Printed.{base, rows, black_count, value_of, bound_score, column_over_black, score_at, shift_of};
 ghost use Rattle.scorer.specs.Meaning.{is_node};
 ghost use Rattle.printed.specs.Bests.{best_of};
-ghost use Rattle.printed.specs.Columns.{column_of, image_columns};
+ghost use Rattle.printed.specs.Columns.{Computes, column_of, image_columns};
 ghost use Rattle.printed.specs.Gathered.{Gathered, image_of, width_of};
 ghost use Rattle.printed.specs.Laws.{PrintedScores};
 ghost use Rattle.printed.specs.Line.{line_lawful};
@@ -22,9 +24,11 @@ use super::tables::{Tables, Template};
 use super::values::Values;
 use face::Face;
 use photo::Photograph;
-use scorer::{PlacedScorer, Scorer};
+use scorer::{PlacedScorer, Scorer, ends_on_line};
+use std::cmp::Reverse;
 
-// A face laid over a photograph, with what was gathered of both.
+// A face laid over a photograph, with what was gathered of both. The face and its weights are no `Weighed` here, since the
+// clauses of `new` and the scorer's meaning speak of the field `face`; `Node::stand` makes one.
 #[derive(Clone, Copy)]
 pub struct Printed<'f, 'p, 'c, 't> {
     face: Face<'f>,
@@ -99,7 +103,7 @@ impl<'f, 'p, 'c, 't> Printed<'f, 'p, 'c, 't> {
     {
         let template = self.template(t)?;
         let width = self.photo.width();
-        if x <= width && template.setwidth <= width - x {
+        if ends_on_line(x, template.setwidth, width) {
             Some(Node {
                 line: self,
                 x,
@@ -140,8 +144,17 @@ impl<'s, 'f, 'p, 'c, 't> Node<'s, 'f, 'p, 'c, 't> {
     fn bound(&self) -> i64
         ensures { result ≡ bound_score self.now.line.now.face.bytes.now (image_of self.now.line.now.photo) self.now.x self.now.t }
     {
+        self.over_columns(|c| self.value(c))
+    }
+
+    // What the template earns wherever it stands, and the gain of each column of its box.
+    fn over_columns<G: Fn(usize) -> i64>(&self, gain: G) -> i64
+        requires pre { (c : ℕ) → c < box_width self.now.line.now.face.bytes.now self.now.t → G.pre gain c }
+        requires small { (f : ℕ → ℤ) × (Computes (G.post gain) f) × ((c : ℕ) → c < box_width self.now.line.now.face.bytes.now self.now.t → Within 144000 (f c)) }
+        ensures { (f : ℕ → ℤ) → Computes (G.post gain) f → result ≡ base self.now.line.now.face.bytes.now self.now.t +ℤ sum_signed (box_width self.now.line.now.face.bytes.now self.now.t) f }
+    {
         let Template { base, width, .. } = self.template;
-        base + (0..width).map(|c| self.value(c)).sum::<i64>()
+        base + (0..width).map(gain).sum::<i64>()
     }
 
     // The node with the columns of its template's box.
@@ -174,8 +187,7 @@ impl<'s, 'f, 'p, 'c, 't> Standing<'s, 'f, 'p, 'c, 't> {
         requires { s ≤ 4 }
         ensures { result ≡ score_at self.now.node.line.now.face.bytes.now (image_of self.now.node.line.now.photo) self.now.node.x self.now.node.t s }
     {
-        let Template { base, width, .. } = self.node.template;
-        base + (0..width).map(|c| self.gain(c, s)).sum::<i64>()
+        self.node.over_columns(|c| self.gain(c, s))
     }
 
     // The highest row that reaches the exact score of the node, and that score.
@@ -183,17 +195,14 @@ impl<'s, 'f, 'p, 'c, 't> Standing<'s, 'f, 'p, 'c, 't> {
         ensures value { result ≡ best_of self.now.node.line.now.face.bytes.now (image_of self.now.node.line.now.photo) self.now.node.x self.now.node.t }
         ensures within { result.row ≤ 4 }
     {
-        let top = Best {
-            score: self.score(0),
-            row: 0,
-        };
-        // A fold: `max_by_key` takes the last of equal rows, and the first is wanted.
-        (1..5)
+        // By the opposite key: of equal rows `max_by_key` takes the last, and `min_by_key` the first, which is wanted.
+        (0..5)
             .map(|row| Best {
                 score: self.score(row),
                 row,
             })
-            .fold(top, |best, next| best.or_better(next))
+            .min_by_key(|best| Reverse(best.score))
+            .unwrap()
     }
 }
 

@@ -57,6 +57,8 @@ impl<'f, 'w> Weighed<'f, 'w> {
     }
 }
 
+// A column and a level are below the strip's own in each clause: the range of an index that a caller gives, and no fact that a
+// type could hold more plainly.
 impl<'f, 'w> Strip<'f, 'w> {
     // The word of a level in a column.
     fn word(&self, c: usize, l: usize) -> u64
@@ -80,7 +82,11 @@ impl<'f, 'w> Strip<'f, 'w> {
         requires { l < levels self.now.weighed.face.bytes.now }
         ensures { result ≡ strip_pixels self.now.weighed.face.bytes.now self.now.first self.now.width l }
     {
-        (0..self.width).map(|c| self.ink(c, l)).sum()
+        let mut pixels = 0;
+        for c in 0..self.width {
+            pixels += self.ink(c, l);
+        }
+        pixels
     }
 
     // What the pixels of a level earn wherever they lie.

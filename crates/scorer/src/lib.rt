@@ -1,7 +1,7 @@
 // What a scorer tells of one line: the meaning on which everything above rests, and windows over it.
 #![tactic(auto)]
 
-ghost use Rattle.std.specs.Prelude.{◌≡◌, ℕ, ℤ};
+ghost use Rattle.std.specs.Prelude.{◌≡◌, ℕ, ◌+◌, ℤ, nat_le};
 ghost use Rattle.scorer.specs.Meaning.{Meaning, Lawful, setwidth_answer, at_node, ShiftWithin};
 
 mod window;
@@ -44,6 +44,14 @@ pub trait PlacedScorer: Scorer {
     // The shift of a node, from -2 to 2.
     fn shift(&self, x: usize, t: usize) -> Option<i64>
         ensures { result ≡ at_node (Self.Scorer.meaning self.now) (shifts self.now) x t };
+}
+
+// Whether a template of so many columns that stands at column `x` ends on a line of `width` columns. By comparing: with
+// `checked_sub` a sweep over cells takes an eighth as long again.
+pub fn ends_on_line(x: usize, setwidth: usize, width: usize) -> bool
+    ensures { result ≡ nat_le (x + setwidth) width }
+{
+    x <= width && setwidth <= width - x
 }
 
 // Each question is handed on under its own name: one function for all would have to be told which, by a closure for each.

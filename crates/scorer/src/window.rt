@@ -5,7 +5,7 @@ ghost use Rattle.scorer.specs.Meaning.{is_node};
 ghost use Rattle.scorer.specs.Window.{window_fits, window_verdict, windowed, window_meaning, column_below, shifts_below};
 ghost use Rattle.scorer.specs.WindowLaw.{window_lawful};
 
-use super::{PlacedScorer, Scorer};
+use super::{PlacedScorer, Scorer, ends_on_line};
 use refusal::{Refusal, ensure};
 
 // Some columns of the line below, from `first` on.
@@ -61,7 +61,7 @@ impl<S: Scorer> Window<S> {
     {
         let setwidth = self.below.setwidth(t)?;
         let width = self.width();
-        if x > width || setwidth > width - x {
+        if !ends_on_line(x, setwidth, width) {
             None
         } else if self.fits() {
             Some(self.first + x)
@@ -71,6 +71,8 @@ impl<S: Scorer> Window<S> {
     }
 }
 
+// The questions about a node differ in what they ask below alone: what they share is `column_below`, and a closure for each
+// would be no shorter.
 impl<S: Scorer> Scorer for Window<S> {
     ghost meaning = { λ s. window_meaning (S.Scorer.meaning s.below) s.first s.width };
 
@@ -92,8 +94,6 @@ impl<S: Scorer> Scorer for Window<S> {
         self.below.setwidth(t)
     }
 
-    // Three questions that differ in what they ask below alone: what they share is `column_below`, and a closure for each
-    // would be no shorter.
     fn bound(&self, x: usize, t: usize) -> Option<i64> {
         let column = self.column_below(x, t)?;
         self.below.bound(column, t)

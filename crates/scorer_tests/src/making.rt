@@ -67,7 +67,8 @@ pub(crate) fn photo_bytes(heap: Global, header: &[u8], rows: &[&[u8]]) -> Result
     Ok(bytes)
 }
 
-// Makes the scorer of a face and a photograph, and asks.
+// Makes the scorer of a face and a photograph, and asks. Checking, making, gathering and tabulating lend to each other, so
+// no function can hand the scorer out: what asks it is handed in.
 pub(crate) fn on_line<F: FnOnce(&Printed) -> Result<(), Fail>>(
     heap: Global,
     face_bytes: &[u8],
@@ -93,7 +94,9 @@ pub(crate) fn window<S: Scorer + Copy>(
     below: S,
     first: usize,
     width: usize,
-) -> Result<Window<S>, Fail> {
+) -> Result<Window<S>, Fail>
+    ensures { IfOk result (λ w. (w.below ≡ below) × ((w.first ≡ first) × (w.width ≡ width))) }
+{
     lawful(check_window(&below, first, width))?;
     Ok(Window::new(below, first, width))
 }

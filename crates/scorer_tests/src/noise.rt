@@ -66,17 +66,20 @@ fn ask_nodes(heap: Global, scorer: &Printed) -> Result<(), Fail> {
     check((1..172).contains(&apart))
 }
 
+// Asks of the line of 61 columns.
+fn on_noise<F: FnOnce(&Printed) -> Result<(), Fail>>(heap: Global, ask: F) -> Result<(), Fail>
+    requires { F.IsAlwaysCallable ask }
+{
+    let face = face_bytes(heap, 5, &LEVELS, &SHAPES)?;
+    let photo = noise(heap)?;
+    on_line(heap, &face, &photo, ask)
+}
+
 // No exact score is above its bound, and some are below.
 #[test]
 fn exact_never_above_bound(rt: HostRuntime) -> Result<(), Fail> {
-    let face = face_bytes(rt.alloc(), 5, &LEVELS, &SHAPES)?;
-    let photo = noise(rt.alloc())?;
-    on_line(
-        rt.alloc(),
-        &face,
-        &photo,
-        |scorer| ask_nodes(rt.alloc(), scorer),
-    )
+    let heap = rt.alloc();
+    on_noise(heap, |scorer| ask_nodes(heap, scorer))
 }
 
 // Whether a column and a template of a window have the answers that are told `first` columns further on below.
@@ -128,12 +131,6 @@ fn ask_windows(heap: Global, scorer: &Printed) -> Result<(), Fail> {
 // Every window of ten columns tells at each of its nodes what is told below, and so does a window over it.
 #[test]
 fn windows_as_below(rt: HostRuntime) -> Result<(), Fail> {
-    let face = face_bytes(rt.alloc(), 5, &LEVELS, &SHAPES)?;
-    let photo = noise(rt.alloc())?;
-    on_line(
-        rt.alloc(),
-        &face,
-        &photo,
-        |scorer| ask_windows(rt.alloc(), scorer),
-    )
+    let heap = rt.alloc();
+    on_noise(heap, |scorer| ask_windows(heap, scorer))
 }

@@ -12,7 +12,7 @@ ghost use Rattle.sheet_file.specs.Verdict.{sheet_verdict};
 ghost use Rattle.sheet_file.proofs.Lawful.{sheet_lawful};
 
 use octets::Number;
-use scorer::Scorer;
+use scorer::{Scorer, ends_on_line};
 
 // A sheet that was checked.
 #[derive(Clone, Copy)]
@@ -37,7 +37,7 @@ impl<'a> Sheet<'a> {
     {
         let setwidth = self.setwidth(t)?;
         let width = self.width();
-        if x > width || setwidth > width - x {
+        if !ends_on_line(x, setwidth, width) {
             return None;
         }
         laid(self.bytes);
@@ -55,12 +55,12 @@ impl<'a> Sheet<'a> {
     }
 }
 
+// Where the file has its numbers is one line each here and in the file's check, which keeps its head and entries to itself.
 impl<'a> Scorer for Sheet<'a> {
     ghost meaning = { λ s. sheet_meaning s.bytes.now };
 
     ghost lawful = { λ s. sheet_lawful s.bytes.now s.lawful };
 
-    // The check of the file has these two numbers too, of a head that it keeps to itself: one line each.
     fn width(&self) -> usize {
         usize::from(u16::at(self.bytes, 0))
     }

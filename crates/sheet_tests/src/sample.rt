@@ -1,4 +1,6 @@
 // A sheet to put faults into.
+ghost use Rattle.std.specs.Prelude.{◌≤◌, OnOk};
+
 use checks::{check, lawful};
 use sheet::Sheet;
 use std::test::Fail;
@@ -22,7 +24,9 @@ pub(crate) fn with_scores(
     at: usize,
     exact: i32,
     bound: i32,
-) -> Result<Bytes, Fail> {
+) -> Result<Bytes, Fail>
+    ensures { OnOk result (at ≤ 46) }
+{
     check(at <= 46)?;
     sheet[at..at + 4].copy_from_slice(&exact.to_le_bytes());
     sheet[at + 4..at + 8].copy_from_slice(&bound.to_le_bytes());

@@ -1,10 +1,8 @@
 -- The cells on the way of a sweep: places behind hold what a sweep gives them, all else is as it was. Assumes nothing.
-use Rattle.std.proofs.Common.{◌≡◌, ℕ, zero, suc, ◌+◌, ◌<◌, ◌≤◌, List, length, get_or, ℤ, Option, sym, refl, ap, ◌∙◌, ⊎_elim, add-one, arith}
+use Rattle.std.proofs.Common.{◌≡◌, ℕ, zero, suc, ◌+◌, ◌<◌, ◌≤◌, List, length, get_or, sym, refl, ap, ◌∙◌, ⊎_elim, add-one, arith}
 use mathlib.Core.Path.{fun_ext}
 use Rattle.std.proofs.lemmas.Bool.{cases_lt}
-use Rattle.cells.proofs.Places.{total_of_place}
 use Rattle.cells.proofs.Views.{length_with_cell, widths_positive, place_same, place_other, node_past_place}
-use Rattle.cells.specs.Blank.{of_place, total_in}
 use Rattle.cells.specs.Layout.{needed, place_index, place_cell, node_cell, score_in, with_place}
 use Rattle.cells.specs.Line.{widths}
 use Rattle.cells.specs.declared.cell.Cell.{Cell}
@@ -15,7 +13,7 @@ use Rattle.paths.specs.Combining.{Rule, RuleLawful}
 use Rattle.paths.specs.Sweep.{work, work_last, place_value, place_last}
 use Rattle.sweep.specs.Swept.{values_in, swept_cell, swept_to, swept_on, SweepJoins}
 
-module _ {X : Type 0} (r : Rule X) (stored : X → Option ℤ) (l : Line) (cells : List Cell) where
+module _ {X : Type 0} (r : Rule X) (stored : X → ℕ → Cell) (l : Line) (cells : List Cell) where
   pub length_swept : (n : ℕ) → length (swept_to r stored l cells n) ≡ length cells
   unfolding swept_to
   length_swept zero = refl
@@ -48,13 +46,13 @@ module _ {X : Type 0} (r : Rule X) (stored : X → Option ℤ) (l : Line) (cells
         ∙ ap (swept_cell r stored (widths l) (score_in l cells)) e)
         (cases_lt q n)
 
-    module _ (held : Option ℤ → X) (kept : (v : X) → held (stored v) ≡ v) where
-      swept_cell_held : (q : ℕ) → held (total_in (swept_cell r stored (widths l) (score_in l cells) q)) ≡ place_value r (widths l) (score_in l cells) q
-      swept_cell_held zero = ap held (total_of_place (stored r.start) 0) ∙ kept r.start ∙ sym (value_start r (widths l) (widths_positive l) (score_in l cells))
-      swept_cell_held (suc q) = ap held (total_of_place _ _) ∙ kept _
+    module _ (held : Cell → X) (kept : (v : X) (last : ℕ) → held (stored v last) ≡ v) where
+      swept_cell_held : (q : ℕ) → held (swept_cell r stored (widths l) (score_in l cells) q) ≡ place_value r (widths l) (score_in l cells) q
+      swept_cell_held zero = kept r.start 0 ∙ sym (value_start r (widths l) (widths_positive l) (score_in l cells))
+      swept_cell_held (suc q) = kept _ _
 
       pub value_swept : (n q : ℕ) → q < n → n ≤ l.width + 1 → values_in held l (swept_to r stored l cells n) q ≡ place_value r (widths l) (score_in l cells) q
-      value_swept n q lt le = ap (λ c. held (total_in c)) (place_swept n q lt le) ∙ swept_cell_held q
+      value_swept n q lt le = ap held (place_swept n q lt le) ∙ swept_cell_held q
 
       -- working the next place gives what the sweep gives it
       module _ (p : ℕ) (le : suc p ≤ l.width) where
@@ -76,7 +74,7 @@ module _ {X : Type 0} (r : Rule X) (stored : X → Option ℤ) (l : Line) (cells
       swept_suc : (p : ℕ) → p ≤ l.width → swept_on r held stored l (swept_to r stored l cells p) p ≡ swept_to r stored l cells (suc p)
       unfolding swept_to
       swept_suc zero le = refl
-      swept_suc (suc p) le = λ i. with_place l (swept_to r stored l cells (suc p)) (suc p) (of_place (stored (next_value p le i)) (next_last p le i))
+      swept_suc (suc p) le = λ i. with_place l (swept_to r stored l cells (suc p)) (suc p) (stored (next_value p le i) (next_last p le i))
 
       pub swept_next : (p : ℕ) → p ≤ l.width → swept_on r held stored l (swept_to r stored l cells p) p ≡ swept_to r stored l cells (p + 1)
       swept_next p le = swept_suc p le ∙ ap (swept_to r stored l cells) (sym (add-one p))

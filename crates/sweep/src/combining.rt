@@ -1,20 +1,23 @@
 // What a sweep can combine: the laws, and the two combinings in use.
-ghost use Rattle.std.specs.Prelude.{◌≡◌, ℤ, Option, is_some, refl};
+ghost use Rattle.std.specs.Prelude.{◌≡◌, ℕ, refl};
+ghost use Rattle.cells.specs.declared.cell.Cell.{Cell};
 ghost use Rattle.paths.specs.Combining.{Rule, RuleLawful, reach, capped_totals};
 ghost use Rattle.paths.proofs.Rules.{reach_lawful, capped_lawful};
-ghost use Rattle.sweep.specs.Held.{stored_answer, answer_kept};
+ghost use Rattle.sweep.specs.Held.{held_answer, stored_answer, answer_kept, held_total, stored_total, total_kept};
 
-// A start, a none, an extending by a score and a joining, with their laws; and how the total of a place's cell holds a value.
+use cells::Cell;
+
+// A start, a none, an extending by a score and a joining, with their laws; and how a place's cell holds a value.
 pub trait Combining: Copy + PartialEq {
     ghost rule: { Rule Self };
 
     ghost lawful: { RuleLawful Self rule };
 
-    ghost held: { Option ℤ → Self };
+    ghost held: { Cell → Self };
 
-    ghost stored: { Self → Option ℤ };
+    ghost stored: { Self → ℕ → Cell };
 
-    ghost kept: { (v : Self) → held (stored v) ≡ v };
+    ghost kept: { (v : Self) (last : ℕ) → held (stored v last) ≡ v };
 
     // The value of the empty path.
     fn start() -> Self
@@ -32,13 +35,13 @@ pub trait Combining: Copy + PartialEq {
     fn join(self, other: Self) -> Self
         ensures { result ≡ rule.join self other };
 
-    // The value that a place's total holds. Not by From, since neither bool nor Option is this crate's to convert.
-    fn load(total: Option<i64>) -> Self
-        ensures { result ≡ held total };
+    // The value that a place's cell holds. Not by From, since neither bool nor Option is this crate's to convert.
+    fn load(cell: Cell) -> Self
+        ensures { result ≡ held cell };
 
-    // The total of a place with this value.
-    fn store(self) -> Option<i64>
-        ensures { result ≡ stored self };
+    // The cell of a place with this value and last template.
+    fn store(self, last: usize) -> Cell
+        ensures { result ≡ stored self last };
 
     ghost same: { (a b : Self) → Self.eq a b ≡ rule.same a b };
 }
@@ -49,7 +52,7 @@ impl Combining for bool {
 
     ghost lawful = { reach_lawful };
 
-    ghost held = { λ total. is_some total };
+    ghost held = { held_answer };
 
     ghost stored = { stored_answer };
 
@@ -73,12 +76,12 @@ impl Combining for bool {
         self || other
     }
 
-    fn load(total: Option<i64>) -> bool {
-        total.is_some()
+    fn load(cell: Cell) -> bool {
+        cell.total().is_some()
     }
 
-    fn store(self) -> Option<i64> {
-        self.then_some(0)
+    fn store(self, last: usize) -> Cell {
+        Cell::of_place(self.then_some(0), last)
     }
 }
 
@@ -88,11 +91,11 @@ impl Combining for Option<i64> {
 
     ghost lawful = { capped_lawful };
 
-    ghost held = { λ total. total };
+    ghost held = { held_total };
 
-    ghost stored = { λ total. total };
+    ghost stored = { stored_total };
 
-    ghost kept = { λ total. refl };
+    ghost kept = { total_kept };
 
     ghost same = { λ a b. refl };
 
@@ -112,11 +115,11 @@ impl Combining for Option<i64> {
         self.max(other)
     }
 
-    fn load(total: Option<i64>) -> Option<i64> {
-        total
+    fn load(cell: Cell) -> Option<i64> {
+        cell.total()
     }
 
-    fn store(self) -> Option<i64> {
-        self
+    fn store(self, last: usize) -> Cell {
+        Cell::of_place(self, last)
     }
 }

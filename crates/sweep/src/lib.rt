@@ -4,7 +4,9 @@
 mod combining;
 mod places;
 mod sweeping;
+#[cfg(test)]
+mod tests;
 
 pub use combining::Combining;
 pub use places::work_place;
-pub use sweeping::sweep;
+pub use sweeping::{sweep, sweep_cells};

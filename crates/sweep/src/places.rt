@@ -4,7 +4,7 @@ ghost use Rattle.cells.specs.Lattice.{relaid};
 ghost use Rattle.sweep.specs.Swept.{brought, worked, worked_last, worked_cells};
 
 use super::Combining;
-use cells::{Cell, Lattice};
+use cells::Lattice;
 
 // The join so far, and the last template that changed it.
 // That is 0 where none did, and no Option, since it is 0 that the rule of the sweep gives the cell there.
@@ -44,7 +44,7 @@ fn brought<C: Combining>(lattice: &Lattice, p: usize, t: usize) -> C
     let Some(x) = p.checked_sub(lattice.line.columns(t)) else {
         return C::none();
     };
-    C::load(lattice.place(x).total()).extend(lattice.node(x, t).score)
+    C::load(lattice.place(x)).extend(lattice.node(x, t).score)
 }
 
 // The join of what all templates bring to a place.
@@ -62,5 +62,5 @@ pub fn work_place<C: Combining>(lattice: &mut Lattice, p: usize)
     ensures { lattice.new ≡ relaid lattice.old (worked_cells C.Combining.rule C.Combining.held C.Combining.stored lattice.old.line.now lattice.old.cells.now p) }
 {
     let joined = join_all::<C>(lattice, p);
-    lattice.set_place(p, Cell::of_place(joined.value.store(), joined.last));
+    lattice.set_place(p, joined.value.store(joined.last));
 }

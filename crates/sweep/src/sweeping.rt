@@ -5,7 +5,7 @@ ghost use Rattle.cells.specs.Layout.{cells_verdict};
 ghost use Rattle.sweep.specs.Swept.{swept, swept_on, SweepJoins};
 
 use super::{Combining, work_place};
-use cells::{Cell, Lattice};
+use cells::{Cell, Lattice, Line};
 
 // Sweeps the line: each place gets the join over all paths that lead there of the start extended along the path.
 pub fn sweep<C: Combining>(lattice: &mut Lattice)
@@ -18,12 +18,21 @@ pub fn sweep<C: Combining>(lattice: &mut Lattice)
     }
 }
 
+// The same for who has the line and its cells apart.
+pub fn sweep_cells<C: Combining>(line: &Line, cells: &mut [Cell])
+    requires { cells_verdict line.now (length cells.old) ≡ Ok tt }
+    ensures cells { cells.new ≡ swept C.Combining.rule C.Combining.stored line.now cells.old }
+    ensures joins { SweepJoins C.Combining.rule C.Combining.held C.Combining.stored line.now cells.old }
+{
+    sweep::<C>(&mut Lattice::new(line, cells));
+}
+
 // Sweeps the next place.
 fn sweep_place<C: Combining>(lattice: &mut Lattice, p: usize)
     ensures { lattice.new ≡ relaid lattice.old (swept_on C.Combining.rule C.Combining.held C.Combining.stored lattice.old.line.now lattice.old.cells.now p) }
 {
     if p == 0 {
-        lattice.set_place(0, Cell::of_place(C::start().store(), 0));
+        lattice.set_place(0, C::start().store(0));
     } else {
         work_place::<C>(lattice, p);
     }

@@ -56,6 +56,7 @@ fn show(rt: &HostRuntime, what: &str, total: Total, nanos: u128) -> anyhow::Resu
     Ok(())
 }
 
+// Makes the scorer, and asks. What the scorer is made of lends to each other, so no function can hand it out.
 fn main(rt: HostRuntime) -> anyhow::Result<()> {
     let heap = rt.alloc();
     let face_bytes = make_face(heap)?;

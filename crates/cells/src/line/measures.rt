@@ -1,11 +1,11 @@
 // What a line tells of itself.
-ghost use Rattle.std.specs.Prelude.{◌≡◌, slice_index};
+ghost use Rattle.std.specs.Prelude.{◌≡◌, length, slice_index, take};
 ghost use Rattle.cells.specs.Line.{widths, templates, line_setwidth};
 ghost use Rattle.paths.specs.Paths.{setwidths_of};
 
 use super::Line;
-use arrayvec::ArrayVec;
 use scorer::Scorer;
+use std::array;
 
 impl Line {
     // The line that a scorer stands for.
@@ -16,6 +16,7 @@ impl Line {
     {
         Line {
             width: scorer.width(),
+            count: scorer.count(),
             setwidths: setwidths(scorer),
         }
     }
@@ -31,17 +32,19 @@ impl Line {
     pub fn count(&self) -> usize
         ensures { result ≡ templates self.now }
     {
-        self.setwidths.len()
+        self.count
     }
 
     // How many columns each template takes up, by its number.
+    #[tactic(auto, unfolding(crate::specs::Line::widths))]
     pub fn setwidths(&self) -> &[usize]
         ensures { result.now ≡ widths self.now }
     {
-        self.setwidths.as_slice()
+        &self.setwidths[..self.count]
     }
 
     // How many columns template `t` takes up.
+    #[tactic(auto, using(crate::proofs::Widths::length_widths))]
     pub fn setwidth(&self, t: usize) -> Option<usize>
         ensures { result ≡ line_setwidth self.now t }
     {
@@ -49,6 +52,7 @@ impl Line {
     }
 
     // The same, and 0 where there is no such template: paths are defined by a list that has 0 past its end.
+    #[tactic(auto, using(crate::proofs::Widths::length_widths, std::proofs::lemmas::List::get_or_past))]
     pub fn columns(&self, t: usize) -> usize
         ensures { result ≡ slice_index (widths self.now) t }
     {
@@ -56,14 +60,10 @@ impl Line {
     }
 }
 
-// The setwidths of a scorer's templates, by their numbers.
-fn setwidths<S: Scorer>(scorer: &S) -> ArrayVec<usize, 64>
-    ensures { result.items ≡ setwidths_of (S.Scorer.meaning scorer.now) }
+// The setwidths of a scorer's templates, by their numbers, and 0 past the last.
+fn setwidths<S: Scorer>(scorer: &S) -> [usize; 64]
+    ensures told { take (S.Scorer.meaning scorer.now).count result ≡ setwidths_of (S.Scorer.meaning scorer.now) }
+    ensures long { length result ≡ 64 }
 {
-    // A loop, since `extend` answers a Result that could not be an Err here.
-    let mut setwidths = ArrayVec::new();
-    for t in 0..scorer.count() {
-        setwidths.push(scorer.setwidth(t).unwrap());
-    }
-    setwidths
+    array::from_fn(|t| scorer.setwidth(t).unwrap_or(0))
 }

@@ -1,4 +1,4 @@
-use Rattle.face.proofs.Exact.{laid_from_is_ok}
+use Rattle.printed.proofs.Laid.{laid_of}
 use Rattle.matching.specs.Printed.{score_at, exact_score}
 use Rattle.matching.proofs.Lawful.{column_value_of}
 use Rattle.matching.proofs.Sums.{greatest_is, lowest_is}
@@ -10,7 +10,7 @@ unfolding exact_score
 returns c =
     let face = c.args.face.now in
     let image = image_of c.args.photo.now in
-    let laid = laid_from_is_ok face.bytes.now face.lawful in
+    let laid = laid_of face in
     record {
       exact = λ x t. greatest_is (score_at face.bytes.now image x t) 0 4;
       row = λ x t. lowest_is (score_at face.bytes.now image x t) 4;

@@ -1,7 +1,7 @@
 use Rattle.std.proofs.Common.{◌≡◌, [], length, get_or, pos, ap, ◌∙◌, arith}
 use Rattle.std.proofs.lemmas.List.FromFn.{length-map-range_with_len, get_or-map-range_with_len}
 use Rattle.face.specs.Fields.{count, columns_before}
-use Rattle.face.proofs.Exact.{laid_from_is_ok}
+use Rattle.printed.proofs.Laid.{laid_of}
 use Rattle.matching.specs.Printed.{rows, value_of, black_count}
 use Rattle.matching.proofs.Rows.{count_le}
 use Rattle.printed.specs.Gathered.{image_of}
@@ -20,25 +20,25 @@ bounds-self-column c =
 pub offset_bounds-self-column : goal.offset_bounds-self-column
 offset_bounds-self-column c =
     let face = c.args.self.now.face in
-    omega (arith, c.requires, all_few face.bytes.now (laid_from_is_ok face.bytes.now face.lawful))
+    omega (arith, c.requires, all_few face.bytes.now (laid_of face))
 
 pub offset_bounds-self-column-2 : goal.offset_bounds-self-column-2
 offset_bounds-self-column-2 c =
     let self = c.args.self.now in
-    let laid = laid_from_is_ok self.face.bytes.now self.face.lawful in
+    let laid = laid_of self.face in
     omega (arith, ap (λ q. q.black) c.column.ensures, count_le (rows self.face.bytes.now) (image_of self.photo c.args.x), laid.high.1)
 
 pub bounds-self-column-2 : goal.bounds-self-column-2
 bounds-self-column-2 c =
     let self = c.args.self.now in
-    let laid = laid_from_is_ok self.face.bytes.now self.face.lawful in
+    let laid = laid_of self.face in
     omega (arith, ap (λ q. q.black) c.column.ensures, count_le (rows self.face.bytes.now) (image_of self.photo c.args.x), laid.high.1)
 
 pub returns : goal.returns
 returns c =
     let self = c.args.self.now in
     let face = self.face.bytes.now in
-    let laid = laid_from_is_ok face self.face.lawful in
+    let laid = laid_of self.face in
     let column = c.args.column in
     let black = black_count face (image_of self.photo) c.args.x in
     let few = count_le (rows face) (image_of self.photo c.args.x) in

@@ -2,7 +2,7 @@ use Rattle.std.proofs.Common.{length, get_or, pos, ◌*ℤ◌, ap, ◌∙◌, ar
 use lib.Bits.{bit_and}
 use lib.Count.{ones}
 use Rattle.std.proofs.lemmas.Int.{to_z-of_z}
-use Rattle.face.proofs.Exact.{laid_from_is_ok}
+use Rattle.printed.proofs.Laid.{laid_of}
 use Rattle.printed.proofs.Strips.{weights_length, weight_is}
 use Rattle.printed.proofs.strip.Strip.level_gain.Goals as goal
 
@@ -12,7 +12,7 @@ bounds-self-l c = omega (arith, ap length c.args.self.now.weighed.weighed, weigh
 pub offset_bounds-self-l : goal.offset_bounds-self-l
 offset_bounds-self-l c =
     let face = c.args.self.now.weighed.face in
-    omega (arith, c.requires.1, (laid_from_is_ok face.bytes.now face.lawful).levelled.1)
+    omega (arith, c.requires.1, (laid_of face).levelled.1)
 
 pub returns : goal.returns
 returns c =

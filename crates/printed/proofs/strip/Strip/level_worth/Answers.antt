@@ -1,5 +1,5 @@
 use Rattle.std.proofs.Common.{arith}
-use Rattle.face.proofs.Exact.{laid_from_is_ok}
+use Rattle.printed.proofs.Laid.{laid_of}
 use Rattle.printed.proofs.Strips.{all_few, pixels_few}
 use Rattle.printed.proofs.strip.Strip.level_worth.Goals as goal
 
@@ -7,5 +7,5 @@ pub earned-requires : goal.earned-requires
 earned-requires c =
     let self = c.args.self.now in
     let face = self.weighed.face.bytes.now in
-    let laid = laid_from_is_ok face self.weighed.face.lawful in
+    let laid = laid_of self.weighed.face in
     omega (arith, c.pixels.ensures, self.there, all_few face laid, pixels_few face laid self.first self.width self.there c.args.l)

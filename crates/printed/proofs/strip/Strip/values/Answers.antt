@@ -1,7 +1,7 @@
 use Rattle.std.proofs.Common.{◌≡◌, ◌+◌, ◌<◌, length, get_or, pos, refl, ap, ◌∙◌, arith, w16, SFits, rules}
 use Rattle.std.proofs.lemmas.Int.{to_z-of_z}
 use Rattle.face.specs.Fields.{gamma, levels}
-use Rattle.face.proofs.Exact.{laid_from_is_ok}
+use Rattle.printed.proofs.Laid.{laid_of}
 use Rattle.matching.specs.Column.{column_value}
 use Rattle.matching.specs.Counts.{sum}
 use Rattle.matching.specs.Printed.{ink, free_rows, value_of}
@@ -16,7 +16,7 @@ unfolding sum
 loop-l-init c =
     let self = c.args.self.now in
     let face = self.weighed.face.bytes.now in
-    let laid = laid_from_is_ok face self.weighed.face.lawful in
+    let laid = laid_of self.weighed.face in
     let column = self.first + c.args.c in (
       omega (arith, c.saturating_sub-room.ensures, c.column_ink.ensures, c.height-rows.ensures.value),
       omega (arith, c.saturating_sub-room.ensures, c.height-rows.ensures.within.1),
@@ -31,14 +31,14 @@ ink-requires c =
 pub overflow_add-room : goal.overflow_add-room
 overflow_add-room c =
     let weighed = c.args.self.now.weighed in
-    let laid = laid_from_is_ok weighed.face.bytes.now weighed.face.lawful in
+    let laid = laid_of weighed.face in
     omega (arith, c.loop-l.invariant.1, c.ink.ensures.bound, ap length weighed.weighed, weights_length weighed.face.bytes.now, c.loop-l-test.true, laid.levelled.1)
 
 pub invariant_of-level : goal.invariant_of-level
 invariant_of-level c =
     let self = c.args.self.now in
     let face = self.weighed.face.bytes.now in
-    let laid = laid_from_is_ok face self.weighed.face.lawful in
+    let laid = laid_of self.weighed.face in
     let column = self.first + c.args.c in
     let l : c.loop-l.l < levels face = omega (arith, ap length self.weighed.weighed, weights_length face, c.loop-l-test.true) in
     record {

@@ -2,7 +2,7 @@ use Rattle.std.proofs.Common.{◌+◌, [], ◌∷◌, ◌++◌, refl, sym, ap, �
 use Rattle.std.proofs.lemmas.List.FromFn.{map-range_with_len_more}
 use Rattle.face.specs.Fields.{columns_before}
 use Rattle.face.proofs.Columns.{columns_more, columns_few}
-use Rattle.face.proofs.Exact.{laid_from_is_ok}
+use Rattle.printed.proofs.Laid.{laid_of}
 use Rattle.printed.specs.Tabulated.{template_of}
 use Rattle.printed.proofs.strip.Weighed.list_templates.Goals as goal
 
@@ -13,7 +13,7 @@ loop-t-init c = (c.in_ok-templates.ensures.items, refl)
 pub overflow_add-first : goal.overflow_add-first
 overflow_add-first c =
     let face = c.args.self.now.face.bytes.now in
-    let few = columns_few face (c.loop-t.t + 1) (laid_from_is_ok face c.args.self.now.face.lawful) (omega (arith, c.count-count.ensures.value)) in
+    let few = columns_few face (c.loop-t.t + 1) (laid_of c.args.self.now.face) (omega (arith, c.count-count.ensures.value)) in
     omega (arith, c.loop-t.invariant.1, ap (λ r. r.width) c.template-template.ensures, columns_more face c.loop-t.t)
 
 pub loop-t-preserved : goal.loop-t-preserved

@@ -1,7 +1,7 @@
 use Rattle.std.proofs.Common.{◌≡◌, ◌*◌, ◌^◌, ◌∙◌, arith, rules}
 use Rattle.std.proofs.lemmas.Int.{ints}
 use Rattle.face.specs.Fields.{box_width, setwidth, prior, columns_before}
-use Rattle.face.proofs.Exact.{laid_from_is_ok}
+use Rattle.printed.proofs.Laid.{laid_of}
 use Rattle.printed.specs.Tables.{strip_worth}
 use Rattle.printed.proofs.Adding.{total}
 use Rattle.printed.proofs.Strips.{box_there, worth_within}
@@ -10,14 +10,14 @@ use Rattle.printed.proofs.strip.Weighed.template.Goals as goal
 pub strip-requires : goal.strip-requires
 strip-requires c =
     let face = c.args.self.now.face.bytes.now in
-    let laid = laid_from_is_ok face c.args.self.now.face.lawful in
+    let laid = laid_of c.args.self.now.face in
     let width : c.from-width.result ≡ box_width face c.args.t = search rules in
     omega (arith, width, c.requires.1, box_there face laid c.args.t c.requires.0)
 
 pub overflow_add-result : goal.overflow_add-result
 overflow_add-result c =
     let face = c.args.self.now.face.bytes.now in
-    let laid = laid_from_is_ok face c.args.self.now.face.lawful in
+    let laid = laid_of c.args.self.now.face in
     let t = c.args.t in
     let of_prior : c.from-2.result ≡ prior face t = search rules in
     let wide : c.from-width.result ≡ box_width face t = search rules in
@@ -27,7 +27,7 @@ overflow_add-result c =
 pub returns : goal.returns
 returns c =
     let face = c.args.self.now.face.bytes.now in
-    let laid = laid_from_is_ok face c.args.self.now.face.lawful in
+    let laid = laid_of c.args.self.now.face in
     let t = c.args.t in
     let of_prior : c.from-2.result ≡ prior face t = search rules in
     let set : c.from.result ≡ setwidth face t = search rules in

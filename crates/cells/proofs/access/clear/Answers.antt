@@ -2,7 +2,7 @@ use Rattle.std.proofs.Common.{◌≡◌, ◌≤◌, min, ◌++◌, length, drop,
 use Rattle.std.proofs.Math.ListN.{replicate}
 use Rattle.cells.specs.Blank.{blank}
 use Rattle.cells.proofs.Blanks.{blanked_front}
-use Rattle.cells.proofs.lattice.clear.Goals as goal
+use Rattle.cells.proofs.access.clear.Goals as goal
 
 pub returns : goal.returns
 returns c =
