@@ -32,7 +32,7 @@ row_sum zero p h = refl
 row_sum (suc n) p h = omega (arith, row_sum n p (omega arith), (row_is (p n) n (omega arith)).0)
 
 -- right of the photograph nothing is black
-white_beyond : (photo : Photograph) (x : ℕ) → width_of photo ≤ x → (y : ℕ) → image_of photo x y ≡ false
+pub white_beyond : (photo : Photograph) (x : ℕ) → width_of photo ≤ x → (y : ℕ) → image_of photo x y ≡ false
 white_beyond photo x h y =
     and_left (ltb x (width_of photo) && ltb y photo.rows) _ (and_left (ltb x (width_of photo)) (ltb y photo.rows) (le-ltb x (width_of photo) h))
 

@@ -64,13 +64,13 @@ pub first_is : (test : ℕ → Bool) (n : ℕ) → IsFirst test n (first_failing
 first_is test n = is_from test n (first_failing test 0 n) (from_is test 0 n)
 
 module _ (n : ℕ) (test : ℕ → Bool) where
-  all_from_each : each n test ≡ true → (i : ℕ) → i < n → test i ≡ true
+  pub all_from_each : each n test ≡ true → (i : ℕ) → i < n → test i ≡ true
   all_from_each h i low =
       let at : get_or (range_with_len 0 n) i 0 ≡ i = omega (arith, get_or-range_with_len 0 n i 0 low) in
       subst (λ q. test q ≡ true) at
       (AllPass-from_list_all test (range_with_len 0 n) h i 0 (omega (arith, length-range_with_len 0 n)))
 
-  each_from_all : ((i : ℕ) → i < n → test i ≡ true) → each n test ≡ true
+  pub each_from_all : ((i : ℕ) → i < n → test i ≡ true) → each n test ≡ true
   each_from_all all =
       list_all-from_AllPass test (range_with_len 0 n) (λ i d low.
       let below : i < n = omega (arith, length-range_with_len 0 n) in
