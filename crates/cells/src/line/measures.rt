@@ -1,19 +1,21 @@
 // What a line tells of itself.
-ghost use Rattle.std.specs.Prelude.{◌≡◌, length, slice_index, take};
+ghost use Rattle.std.specs.Prelude.{◌≡◌, ℕ, ◌<◌, ◌≤◌, length, slice_index, take};
 ghost use Rattle.cells.specs.Line.{widths, templates, line_setwidth};
 ghost use Rattle.paths.specs.Paths.{setwidths_of};
+ghost use Rattle.scorer.specs.Meaning.{Lawful};
 
 use super::Line;
 use scorer::Scorer;
-use std::array;
 
 impl Line {
     // The line that a scorer stands for.
+    #[tactic(auto, unfolding(crate::specs::Line::widths))]
     pub fn of<S: Scorer>(scorer: &S) -> Line
         ensures width { result.width ≡ (S.Scorer.meaning scorer.now).width }
         ensures count { templates result ≡ (S.Scorer.meaning scorer.now).count }
         ensures setwidths { widths result ≡ setwidths_of (S.Scorer.meaning scorer.now) }
     {
+        lawful(scorer);
         Line {
             width: scorer.width(),
             count: scorer.count(),
@@ -60,10 +62,30 @@ impl Line {
     }
 }
 
-// The setwidths of a scorer's templates, by their numbers, and 0 past the last.
+// The setwidths of a scorer's templates, by their numbers, and 0 past the last. By a loop: `array::from_fn` asks, or tests, 64
+// numbers for a line of one template, and took two and a half times as long.
 fn setwidths<S: Scorer>(scorer: &S) -> [usize; 64]
     ensures told { take (S.Scorer.meaning scorer.now).count result ≡ setwidths_of (S.Scorer.meaning scorer.now) }
     ensures long { length result ≡ 64 }
+    ensures set { (t : ℕ) → t < (S.Scorer.meaning scorer.now).count → (1 ≤ slice_index result t) × (slice_index result t ≤ 64) }
 {
-    array::from_fn(|t| scorer.setwidth(t).unwrap_or(0))
+    lawful(scorer);
+    let mut setwidths = [0; 64];
+    for t in 0..scorer.count() {
+        setwidths[t] = setwidth_of(scorer, t);
+    }
+    setwidths
 }
+
+// The setwidth of one of a scorer's templates.
+fn setwidth_of<S: Scorer>(scorer: &S, t: usize) -> usize
+    requires { t < (S.Scorer.meaning scorer.now).count }
+    ensures { result ≡ (S.Scorer.meaning scorer.now).setwidth t }
+{
+    scorer.setwidth(t).unwrap_or(0)
+}
+
+// Does nothing: its contract is that a scorer's meaning is lawful.
+fn lawful<S: Scorer>(scorer: &S)
+    ensures { Lawful (S.Scorer.meaning scorer.now) }
+{}
