@@ -1,5 +1,5 @@
 // What a sweep can combine: the laws, and the two combinings in use.
-ghost use Rattle.std.specs.Prelude.{◌≡◌, ℕ, refl};
+ghost use Rattle.std.specs.Prelude.{◌≡◌, ℕ};
 ghost use Rattle.cells.specs.declared.cell.Cell.{Cell};
 ghost use Rattle.paths.specs.Combining.{Rule, RuleLawful, reach, capped_totals};
 ghost use Rattle.paths.proofs.Rules.{reach_lawful, capped_lawful};
@@ -8,7 +8,7 @@ ghost use Rattle.sweep.specs.Held.{held_answer, stored_answer, answer_kept, held
 use cells::Cell;
 
 // A start, a none, an extending by a score and a joining, with their laws; and how a place's cell holds a value.
-pub trait Combining: Copy + PartialEq {
+pub trait Combining: Copy {
     ghost rule: { Rule Self };
 
     ghost lawful: { RuleLawful Self rule };
@@ -35,6 +35,10 @@ pub trait Combining: Copy + PartialEq {
     fn join(self, other: Self) -> Self
         ensures { result ≡ rule.join self other };
 
+    // Whether both are the same value. A member of its own, and no `PartialEq`: that would ask more of a type than this.
+    fn same(self, other: Self) -> bool
+        ensures { result ≡ rule.same self other };
+
     // The value that a place's cell holds. Not by From, since neither bool nor Option is this crate's to convert.
     fn load(cell: Cell) -> Self
         ensures { result ≡ held cell };
@@ -42,8 +46,6 @@ pub trait Combining: Copy + PartialEq {
     // The cell of a place with this value and last template.
     fn store(self, last: usize) -> Cell
         ensures { result ≡ stored self last };
-
-    ghost same: { (a b : Self) → Self.eq a b ≡ rule.same a b };
 }
 
 // Yes or no: does a path lead here?
@@ -57,8 +59,6 @@ impl Combining for bool {
     ghost stored = { stored_answer };
 
     ghost kept = { answer_kept };
-
-    ghost same = { λ a b. refl };
 
     fn start() -> bool {
         true
@@ -74,6 +74,10 @@ impl Combining for bool {
 
     fn join(self, other: bool) -> bool {
         self || other
+    }
+
+    fn same(self, other: bool) -> bool {
+        self == other
     }
 
     fn load(cell: Cell) -> bool {
@@ -97,8 +101,6 @@ impl Combining for Option<i64> {
 
     ghost kept = { total_kept };
 
-    ghost same = { λ a b. refl };
-
     fn start() -> Option<i64> {
         Some(0)
     }
@@ -113,6 +115,10 @@ impl Combining for Option<i64> {
 
     fn join(self, other: Option<i64>) -> Option<i64> {
         self.max(other)
+    }
+
+    fn same(self, other: Option<i64>) -> bool {
+        self == other
     }
 
     fn load(cell: Cell) -> Option<i64> {

@@ -1,8 +1,8 @@
 // The sweep of a whole line, for any combining.
-ghost use Rattle.std.specs.Prelude.{◌≡◌, Ok, length};
+ghost use Rattle.std.specs.Prelude.{◌≡◌, ◌+◌, ◌≤◌, Ok, length};
 ghost use Rattle.cells.specs.Lattice.{relaid};
 ghost use Rattle.cells.specs.Layout.{cells_verdict};
-ghost use Rattle.sweep.specs.Swept.{swept, swept_on, SweepJoins};
+ghost use Rattle.sweep.specs.Swept.{swept_to, swept, swept_on, SweepJoins};
 
 use super::{Combining, work_place};
 use cells::{Cell, Lattice, Line};
@@ -13,9 +13,8 @@ pub fn sweep<C: Combining>(lattice: &mut Lattice)
     ensures cells { lattice.new ≡ relaid lattice.old (swept C.Combining.rule C.Combining.stored lattice.old.line.now lattice.old.cells.now) }
     ensures joins { SweepJoins C.Combining.rule C.Combining.held C.Combining.stored lattice.old.line.now lattice.old.cells.now }
 {
-    for p in 0..lattice.line.width() + 1 {
-        sweep_place::<C>(lattice, p);
-    }
+    joins::<C>(lattice);
+    sweep_to::<C>(lattice, lattice.line.width() + 1);
 }
 
 // The same for who has the line and its cells apart.
@@ -25,6 +24,16 @@ pub fn sweep_cells<C: Combining>(line: &Line, cells: &mut [Cell])
     ensures joins { SweepJoins C.Combining.rule C.Combining.held C.Combining.stored line.now cells.old }
 {
     sweep::<C>(&mut Lattice::new(line, cells));
+}
+
+// Sweeps the places below `end`.
+fn sweep_to<C: Combining>(lattice: &mut Lattice, end: usize)
+    requires { (cells_verdict lattice.old.line.now (length lattice.old.cells.now) ≡ Ok tt) × (end ≤ lattice.old.line.now.width + 1) }
+    ensures { lattice.new ≡ relaid lattice.old (swept_to C.Combining.rule C.Combining.stored lattice.old.line.now lattice.old.cells.now end) }
+{
+    for p in 0..end {
+        sweep_place::<C>(lattice, p);
+    }
 }
 
 // Sweeps the next place.
@@ -37,3 +46,9 @@ fn sweep_place<C: Combining>(lattice: &mut Lattice, p: usize)
         work_place::<C>(lattice, p);
     }
 }
+
+// Does nothing: its contract is what a sweep gives each place.
+fn joins<C: Combining>(lattice: &Lattice)
+    requires { cells_verdict lattice.now.line.now (length lattice.now.cells.now) ≡ Ok tt }
+    ensures { SweepJoins C.Combining.rule C.Combining.held C.Combining.stored lattice.now.line.now lattice.now.cells.now }
+{}
