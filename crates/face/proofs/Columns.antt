@@ -1,5 +1,5 @@
 -- The columns of the templates follow each other. Assumes nothing.
-use Rattle.std.proofs.Common.{◌≡◌, ℕ, zero, suc, ◌+◌, ◌*◌, ◌<◌, ◌≤◌, true, leb, List, length, sym, refl, subst, ⊎_elim, add-one, arith}
+use Rattle.std.proofs.Common.{◌≡◌, ℕ, zero, suc, ◌+◌, ◌*◌, ◌<◌, ◌≤◌, true, leb, List, length, sym, refl, ap, subst, ⊎_elim, add-one, mul-add, arith}
 use Rattle.std.proofs.lemmas.Nat.{mul-le}
 use Rattle.std.proofs.lemmas.Bool.{cases_lt, and_from, le-leb}
 use Rattle.std.proofs.lemmas.List.{map-id}
@@ -31,7 +31,10 @@ columns_at_most face zero narrow = omega (arith, columns_none face)
 columns_at_most face (suc t) narrow =
     rw (← add-one) (omega (arith, columns_more face t, narrow t, columns_at_most face t narrow))
 
--- the columns of a template end within the bytes
+-- the columns of template t begin where those before it end, and end within the bytes
+pub columns_end : (face : List ℕ) (t : ℕ) → columns_start face (t + 1) ≡ columns_start face t + 4 * (levels face * box_width face t)
+columns_end face t = omega (arith, ap (λ q. levels face * q) (columns_more face t), mul-add (levels face) (columns_before face t) (box_width face t))
+
 pub columns_within : (face : List ℕ) (t : ℕ) → FaceLaid face → t < count face → columns_start face (t + 1) ≤ length face
 columns_within face t laid h =
     let mono : columns_before face (t + 1) ≤ columns_before face (count face) = columns_mono face (t + 1) (count face) (omega arith) in

@@ -115,6 +115,14 @@ pub(crate) fn column_start(bytes: &[u8], column: usize) -> usize
     word_start(bytes, levels(bytes) * column)
 }
 
+// How many bytes so many columns take up.
+pub(crate) fn columns_size(bytes: &[u8], columns: usize) -> usize
+    requires { columns ≤ 65536 }
+    ensures { result ≡ 4 * (levels bytes.now * columns) }
+{
+    4 * (levels(bytes) * columns)
+}
+
 // How many columns the box of template `t` has.
 fn box_width(bytes: &[u8], t: usize) -> usize
     requires { t < 65536 }

@@ -1,7 +1,7 @@
 // A face: the character templates by which a line is read, held as the bytes of its file.
 #![tactic(auto)]
 
-ghost use Rattle.std.specs.Prelude.{◌≡◌, ℕ, ◌+◌, ◌^◌, ◌<◌, ◌≤◌, true, Option, IfSome, is_ok, Ok, nat_lt};
+ghost use Rattle.std.specs.Prelude.{◌≡◌, ℕ, ◌+◌, ◌*◌, ◌^◌, ◌<◌, ◌≤◌, true, Option, IfSome, is_ok, Ok, nat_lt};
 ghost use Rattle.std.specs.Option.{option_map};
 ghost use Rattle.std.specs.List.{between};
 ghost use Rattle.octets.specs.Absent.{present};
@@ -12,7 +12,9 @@ ghost use Rattle.face.specs.Verdict.{face_verdict};
 mod checks;
 
 pub use checks::{LARGEST, check};
-use checks::{column_start, columns_before, count, height, level_start, levels, template_start};
+use checks::{
+    column_start, columns_before, columns_size, count, height, level_start, levels, template_start,
+};
 use octets::Number;
 
 // A face that was checked.
@@ -107,19 +109,21 @@ impl<'a> Face<'a> {
         self.number(self.template_at(t), 4)
     }
 
-    // The columns of template `t`, one word for each level of a column, as they lie in the face's own bytes.
+    // The columns of template `t`, one word for each level of a column, as they lie in the face's own bytes. By where they begin
+    // and how many bytes they are: by `columns_between` it takes up to two and a half times as long.
     pub fn columns(&self, t: usize) -> Option<&'a [u8]>
         ensures { option_map (λ x. x.now) result ≡ present (nat_lt t (count_of self.now.bytes.now)) (between (columns_start self.now.bytes.now t) (columns_start self.now.bytes.now (t + 1)) self.now.bytes.now) }
     {
-        let width = self.box_width(t)?;
+        let width = usize::from(self.box_width(t)?);
         laid(self.bytes);
         columns_law(self.bytes, t);
-        let first = columns_before(self.bytes, t);
-        self.columns_between(first, first + usize::from(width))
+        let start = column_start(self.bytes, columns_before(self.bytes, t));
+        let end = start + columns_size(self.bytes, width);
+        Some(&self.bytes[start..end])
     }
 
     // The columns from `first` to before `end`, where columns are counted over all templates, as they lie in the face's
-    // own bytes.
+    // own bytes. By comparing: by `get` of both ends it takes twice as long where they are not there.
     pub fn columns_between(&self, first: usize, end: usize) -> Option<&'a [u8]>
         ensures { option_map (λ x. x.now) result ≡ present (columns_there self.now.bytes.now first end) (between (column_start self.now.bytes.now first) (column_start self.now.bytes.now end) self.now.bytes.now) }
     {
@@ -127,8 +131,11 @@ impl<'a> Face<'a> {
         if first > end || end > self.bytes.len() {
             return None;
         }
-        let start = column_start(self.bytes, first);
-        self.bytes.get(start..column_start(self.bytes, end))
+        let end = column_start(self.bytes, end);
+        if end > self.bytes.len() {
+            return None;
+        }
+        Some(&self.bytes[column_start(self.bytes, first)..end])
     }
 
     // The number that stands `offset` bytes after a first one.
@@ -165,6 +172,7 @@ fn laid(bytes: &[u8])
 // Does nothing: its contract is the law that the columns of a template follow those of the templates before it, and are there.
 fn columns_law(bytes: &[u8], t: usize)
     requires { (is_ok (face_verdict bytes.now) ≡ true) × (t < count_of bytes.now) }
+    ensures ends { columns_start bytes.now (t + 1) ≡ columns_start bytes.now t + 4 * (levels_of bytes.now * box_width bytes.now t) }
     ensures follow { columns_before_of bytes.now (t + 1) ≡ columns_before_of bytes.now t + box_width bytes.now t }
     ensures there { columns_there bytes.now (columns_before_of bytes.now t) (columns_before_of bytes.now (t + 1)) ≡ true }
 {}
