@@ -18,3 +18,11 @@ total m n a b x y p q v w few =
     let sum : to_z w64 (of_z w64 a) +ℤ to_z w64 (of_z w64 b) ≡ x +ℤ y = λ i. first i +ℤ second i in
     let fits : SFits w64 (x +ℤ y) = fits_within (m + n) (x +ℤ y) few (within_add m n x y v w) in
     (subst (SFits w64) (sym sum) fits, ap (λ z. to_z w64 (of_z w64 z)) sum ∙ to_z-of_z w64 (x +ℤ y) fits)
+
+-- the same of a sum so far, which is a value already
+pub onto : (m n : ℕ) (s b x y : ℤ) → s ≡ x → b ≡ y → Within m x → Within n y → m + n < 2 ^ 63 → SFits w64 (s +ℤ to_z w64 (of_z w64 b)) × (to_z w64 (of_z w64 (s +ℤ to_z w64 (of_z w64 b))) ≡ x +ℤ y)
+onto m n s b x y p q v w few =
+    let second : to_z w64 (of_z w64 b) ≡ y = held n b y q w (omega arith) in
+    let sum : s +ℤ to_z w64 (of_z w64 b) ≡ x +ℤ y = λ i. p i +ℤ second i in
+    let fits : SFits w64 (x +ℤ y) = fits_within (m + n) (x +ℤ y) few (within_add m n x y v w) in
+    (subst (SFits w64) (sym sum) fits, ap (λ z. to_z w64 (of_z w64 z)) sum ∙ to_z-of_z w64 (x +ℤ y) fits)

@@ -147,14 +147,19 @@ impl<'s, 'f, 'p, 'c, 't> Node<'s, 'f, 'p, 'c, 't> {
         self.over_columns(|c| self.value(c))
     }
 
-    // What the template earns wherever it stands, and the gain of each column of its box.
+    // What the template earns wherever it stands, and the gain of each column of its box. By a loop: by `map` and `sum`, a bound
+    // over a box of one column takes half as long again.
     fn over_columns<G: Fn(usize) -> i64>(&self, gain: G) -> i64
         requires pre { (c : ℕ) → c < box_width self.now.line.now.face.bytes.now self.now.t → G.pre gain c }
         requires small { (f : ℕ → ℤ) × (Computes (G.post gain) f) × ((c : ℕ) → c < box_width self.now.line.now.face.bytes.now self.now.t → Within 144000 (f c)) }
         ensures { (f : ℕ → ℤ) → Computes (G.post gain) f → result ≡ base self.now.line.now.face.bytes.now self.now.t +ℤ sum_signed (box_width self.now.line.now.face.bytes.now self.now.t) f }
     {
         let Template { base, width, .. } = self.template;
-        base + (0..width).map(gain).sum::<i64>()
+        let mut score = base;
+        for c in 0..width {
+            score += gain(c);
+        }
+        score
     }
 
     // The node with the columns of its template's box.
