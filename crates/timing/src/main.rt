@@ -36,14 +36,20 @@ impl fmt::Display for Total {
     }
 }
 
-// The total of a score that the scorer is asked at each column and template.
+// The total of a score that the scorer is asked at each column and template. By loops: with `filter_map` the search for the next
+// node is compiled poorly, and the total of the bounds takes three times as long.
 fn over_nodes<F: Fn(&Printed, usize, usize) -> Option<i64>>(scorer: &Printed, score: F) -> Total
     requires { F.IsAlwaysCallable score }
 {
-    let score = &score;
-    (0..scorer.count())
-        .flat_map(|t| (0..scorer.width()).filter_map(move |x| score(scorer, x, t)))
-        .fold(Total::default(), Total::with)
+    let mut total = Total::default();
+    for t in 0..scorer.count() {
+        for x in 0..scorer.width() {
+            if let Some(score) = score(scorer, x, t) {
+                total = total.with(score);
+            }
+        }
+    }
+    total
 }
 
 // Prints a total, and to the error output what one question took. `main` reads the clock around each sum itself: in a
